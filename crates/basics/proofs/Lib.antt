@@ -1,0 +1,6 @@
+pub mod Tests
+pub mod Members
+pub mod Maps
+pub mod Counts
+pub mod Capacities
+pub mod Tables

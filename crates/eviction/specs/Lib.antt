@@ -1,0 +1,5 @@
+pub mod Answers
+pub mod Entries
+pub mod Sift
+pub mod Heap
+pub mod Victim

@@ -1,0 +1,44 @@
+-- `CacheKey::bucket` meets its contract: two sums that wrap are one sum that wraps. Assumes nothing.
+use Prim.Native.Nat.{ℕ, _+_, _%_, _^_}
+use mathlib.Core.Path.{_≡_, _∙_, sym, ap}
+use native.Mathlib.Nat.{mod-add-mod, mod-zero}
+use borrow.Author.Needs.{needs}
+use Rattle.key.specs.declared.CacheKey.{CacheKey}
+use Rattle.key.specs.Bucket.{bucketOf}
+use Rattle.key.proofs.CacheKey.bucket.Statement.{statement}
+use Rattle.key.proofs.CacheKey.bucket.Tie as tie
+
+-- the second sum over the first
+wrapped : (k : CacheKey) {part sum : ℕ} → part ≡ (k .file + k .kind) % 2 ^ 64 → sum ≡ (part + k .index) % 2 ^ 64 → sum ≡ (k .file + k .kind + k .index) % 2 ^ 64
+wrapped k p s = s ∙ ap (λ (x : ℕ). (x + k .index) % 2 ^ 64) p ∙ mod-add-mod _ _ _
+
+cast-wrapping-add-u64 : tie.Need-cast-wrapping-add-u64
+cast-wrapping-add-u64 c = search needs
+
+wrapping-add-u64-requires : tie.Need-wrapping-add-u64-requires
+wrapping-add-u64-requires c κs = search needs
+
+wrapping-add-u64-requires-2 : tie.Need-wrapping-add-u64-requires-2
+wrapping-add-u64-requires-2 c κs = search needs
+
+returns : tie.Need-returns
+unfolding bucketOf
+returns c = wrapped _ (c .before .before .wrapping-add-u64 .ensures) (c .before .wrapping-add-u642 .ensures) ∙ rw (c .if1 .taken, mod-zero)
+
+rem-result : tie.Need-rem-result
+rem-result c = search needs
+
+returns-2 : tie.Need-returns-2
+unfolding bucketOf
+returns-2 c = ap (λ (x : ℕ). x % c .before .before .before .before .args .buckets) (wrapped _ (c .before .before .wrapping-add-u64 .ensures) (c .before .wrapping-add-u642 .ensures))
+
+pub bucket-spec : {M : Type 1} → statement M
+bucket-spec =
+    tie.close
+    (tie.spec
+    cast-wrapping-add-u64
+    wrapping-add-u64-requires
+    wrapping-add-u64-requires-2
+    returns
+    rem-result
+    returns-2)

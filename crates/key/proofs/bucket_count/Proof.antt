@@ -1,0 +1,86 @@
+-- `key::bucket_count` meets its contract: the table's rule is a test at each of its 256 entries, which antt computes. Assumes nothing.
+use Prim.Native.Nat.{ℕ, suc, _-_, _<_, _≤_}
+use mathlib.Core.Path.{_≡_, refl, sym, _∙_, ap}
+use mathlib.Core.Bool.{Bool}
+use mathlib.Core.List.{List, _++_}
+use lib.Dec.{T, eqb, eqb→eq}
+use lib.ListN.{length, getD, replicate}
+use native.Mathlib.Omega.{arith}
+use borrow.Author.Needs.{needs}
+use Rattle.basics.specs.Try.{Try, ok, refuse}
+use Rattle.basics.specs.declared.Done.{Done}
+use Rattle.basics.specs.Answers.{doneAnswer}
+use Rattle.basics.specs.Capacity.{needCapacity}
+use Rattle.basics.specs.Numbers.{doubled, powerOver}
+use Rattle.basics.proofs.Capacities.{capacity-fits}
+use Rattle.basics.proofs.Tables.{everyEntry, at}
+use Rattle.key.specs.Bucket.{bucketCount, countFor}
+use Rattle.key.proofs.bucket_count.Statement.{statement}
+use Rattle.key.proofs.bucket_count.Tie as tie
+
+-- the entries of the code's table, in runs of equal ones
+counts : List ℕ
+counts = replicate 1 2 ++ replicate 1 4 ++ replicate 2 8 ++ replicate 4 16 ++ replicate 8 32 ++ replicate 16 64 ++ replicate 32 128 ++ replicate 64 256 ++ replicate 128 512
+
+-- the entry k is the bucket count of the capacity k + 1
+right : ℕ → ℕ → Bool
+right k x = eqb x (bucketCount (suc k))
+
+-- so each entry of the table is the bucket count of its capacity
+entry : (xs : List ℕ) → T (everyEntry right 0 xs) → length xs ≡ 256 → {c : ℕ} → (0 < c) × (c ≤ 256) → getD xs (c - 1) 0 ≡ bucketCount c
+unfolding right
+entry xs t n {c} f =
+    let last : c - 1 < length xs = omega arith in
+    let one : suc (c - 1) ≡ c = omega arith in
+    eqb→eq _ _ (at right xs t (c - 1) last) ∙ ap bucketCount one
+
+-- what the check of the capacity told
+fits : {c : ℕ} {d : Done} → doneAnswer d ≡ needCapacity c → d ≡ Done.Done → (0 < c) × (c ≤ 256)
+fits e q = capacity-fits _ (sym e ∙ ap doneAnswer q)
+
+refused : (c : ℕ) {d : Done} {n : ℕ} → doneAnswer d ≡ needCapacity c → d ≡ Done.Refused n → refuse n ≡ countFor c
+unfolding countFor
+refused c e q = rw (← e, q)
+
+counted : (c : ℕ) {d : Done} {n : ℕ} → doneAnswer d ≡ needCapacity c → d ≡ Done.Done → n ≡ bucketCount c → ok n ≡ countFor c
+unfolding countFor
+counted c e q w = rw (← e, q, w)
+
+check-capacity-requires : tie.Need-check-capacity-requires
+check-capacity-requires c κs = search needs
+
+enum-known-checked : tie.Need-enum-known-checked
+enum-known-checked c = search needs
+
+enum-told : tie.Need-enum-told
+enum-told c = search needs
+
+sub-t6 : tie.Need-sub-t6
+sub-t6 c = let f = fits (c .before .before .check-capacity .ensures) (c .enum-told .given .1) in omega arith
+
+mul-t7 : tie.Need-mul-t7
+mul-t7 c = let f = fits (c .before .before .check-capacity .ensures) (c .enum-told .given .1) in omega arith
+
+array-read-t10 : tie.Need-array-read-t10
+array-read-t10 c = let f = fits (c .before .before .check-capacity .ensures) (c .enum-told .given .1) in omega arith
+
+returns : tie.Need-returns
+returns c = refused _ (c .before .before .before .check-capacity .ensures) (c .before .checked .given .1)
+
+returns-2 : tie.Need-returns-2
+unfolding counts right doubled powerOver bucketCount
+returns-2 c =
+    counted _ (c .before .before .check-capacity .ensures) (c .enum-told .given .1) (entry counts tt refl (fits (c .before .before .check-capacity .ensures) (c .enum-told .given .1)))
+
+pub bucket-count-spec : {M : Type 1} → statement M
+bucket-count-spec =
+    tie.close
+    (tie.spec
+    check-capacity-requires
+    enum-known-checked
+    enum-told
+    sub-t6
+    mul-t7
+    array-read-t10
+    returns
+    returns-2)

@@ -1,0 +1,4 @@
+pub mod Key
+pub mod Bucket
+pub mod Answers
+pub mod Least
