@@ -60,10 +60,11 @@ pub cut-in : (x y : ℕ) (xs : List ℕ) → Once xs → In y (cut x xs) → In 
 unfolding cut
 cut-in x y [] o m = in-none m
 cut-in x y (z ∷ zs) o m =
-    elim (is (eqb z x))
-      [ yes! e ↦ let k : In y zs = rw e at m in (there k, λ q. not-in (o .0) k (eqb-true z x e ∙ sym q))
+    elim (is (eqb z x)) [
+      | yes! e ↦ let k : In y zs = rw e at m in (there k, λ q. not-in (o .0) k (eqb-true z x e ∙ sym q))
       | no! e ↦ let k : In y (z ∷ cut x zs) = rw e at m in
-          in-case k (λ q. (rw q here, λ w. eqb-false z x e (sym q ∙ w))) (λ n. (there (cut-in x y zs o.1 n .0), cut-in x y zs o.1 n .1)) ]
+          in-case k (λ q. (rw q here, λ w. eqb-false z x e (sym q ∙ w))) (λ n. (there (cut-in x y zs o.1 n .0), cut-in x y zs o.1 n .1))
+    ]
 
 pub in-cut : {x y : ℕ} {xs : List ℕ} → In y xs → (y ≡ x → ⊥) → In y (cut x xs)
 unfolding cut

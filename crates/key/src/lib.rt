@@ -297,7 +297,8 @@ impl CacheKey {
     pub fn bucket(self, buckets: usize) -> usize
         ensures { λ r. ⌜ r ≡ bucketOf self buckets ⌝ }
     {
-        let part = std::num::wrapping_add_u64(self.file, self.kind as u64);
+        let kind = self.kind as u64;
+        let part = std::num::wrapping_add_u64(self.file, kind);
         let sum = std::num::wrapping_add_u64(part, self.index) as usize;
         if buckets == 0 {
             return sum;
@@ -311,8 +312,9 @@ pub fn bucket_count(capacity: usize) -> Count
     ensures { λ r. ⌜ countAnswer r ≡ countFor capacity ⌝ }
 {
     let checked = basics::check_capacity(capacity);
-    match checked {
-        Done::Refused(why) => Count::Refused(why),
-        Done::Done => Count::Of(BUCKET_COUNTS[capacity - 1]),
+    if let Done::Refused(why) = checked {
+        return Count::Refused(why);
     }
+    let at = capacity - 1;
+    Count::Of(BUCKET_COUNTS[at])
 }

@@ -52,20 +52,20 @@ check-capacity-requires c κs = search needs
 enum-known-checked : tie.Need-enum-known-checked
 enum-known-checked c = search needs
 
+returns : tie.Need-returns
+returns c = refused _ (c .before .before .before .check-capacity .ensures) (c .before .checked .given .1)
+
 enum-told : tie.Need-enum-told
 enum-told c = search needs
 
-sub-t6 : tie.Need-sub-t6
-sub-t6 c = let f = fits (c .before .before .check-capacity .ensures) (c .enum-told .given .1) in omega arith
+sub-at : tie.Need-sub-at
+sub-at c = let f = fits (c .before .before .check-capacity .ensures) (c .enum-told .given .1) in omega arith
 
-mul-t7 : tie.Need-mul-t7
-mul-t7 c = let f = fits (c .before .before .check-capacity .ensures) (c .enum-told .given .1) in omega arith
+mul-t6 : tie.Need-mul-t6
+mul-t6 c = let f = fits (c .before .before .check-capacity .ensures) (c .enum-told .given .1) in omega arith
 
-array-read-t10 : tie.Need-array-read-t10
-array-read-t10 c = let f = fits (c .before .before .check-capacity .ensures) (c .enum-told .given .1) in omega arith
-
-returns : tie.Need-returns
-returns c = refused _ (c .before .before .before .check-capacity .ensures) (c .before .checked .given .1)
+array-read-t9 : tie.Need-array-read-t9
+array-read-t9 c = let f = fits (c .before .before .check-capacity .ensures) (c .enum-told .given .1) in omega arith
 
 returns-2 : tie.Need-returns-2
 unfolding counts right doubled powerOver bucketCount
@@ -78,9 +78,9 @@ bucket-count-spec =
     (tie.spec
     check-capacity-requires
     enum-known-checked
-    enum-told
-    sub-t6
-    mul-t7
-    array-read-t10
     returns
+    enum-told
+    sub-at
+    mul-t6
+    array-read-t9
     returns-2)

@@ -12,8 +12,8 @@ use Rattle.key.proofs.CacheKey.bucket.Tie as tie
 wrapped : (k : CacheKey) {part sum : ℕ} → part ≡ (k .file + k .kind) % 2 ^ 64 → sum ≡ (part + k .index) % 2 ^ 64 → sum ≡ (k .file + k .kind + k .index) % 2 ^ 64
 wrapped k p s = s ∙ ap (λ (x : ℕ). (x + k .index) % 2 ^ 64) p ∙ mod-add-mod _ _ _
 
-cast-wrapping-add-u64 : tie.Need-cast-wrapping-add-u64
-cast-wrapping-add-u64 c = search needs
+cast-kind : tie.Need-cast-kind
+cast-kind c = search needs
 
 wrapping-add-u64-requires : tie.Need-wrapping-add-u64-requires
 wrapping-add-u64-requires c κs = search needs
@@ -36,7 +36,7 @@ pub bucket-spec : {M : Type 1} → statement M
 bucket-spec =
     tie.close
     (tie.spec
-    cast-wrapping-add-u64
+    cast-kind
     wrapping-add-u64-requires
     wrapping-add-u64-requires-2
     returns
