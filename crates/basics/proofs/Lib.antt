@@ -4,3 +4,4 @@ pub mod Maps
 pub mod Counts
 pub mod Capacities
 pub mod Tables
+pub mod Fills

@@ -1,13 +1,14 @@
--- Lists of slots: membership, each slot once, and a slot taken out. Assumes nothing.
-use Prim.Native.Nat.{ℕ, suc, _≤_}
+-- Lists of slots: membership, each slot once, a slot taken out, and a list mapped. Assumes nothing.
+use Prim.Native.Nat.{ℕ, zero, suc, _-_, _<_, _≤_}
 use native.Mathlib.Omega.{arith}
-use mathlib.Core.Path.{_≡_, refl, sym, _∙_}
+use mathlib.Core.Path.{_≡_, refl, sym, ap, _∙_}
 use mathlib.Core.Bool.{Bool, true, false}
-use mathlib.Core.List.{List, [], _∷_}
+use mathlib.Core.List.{List, [], _∷_, map}
 use lib.Dec.{eqb}
-use lib.ListN.{length}
+use lib.ListN.{length, getD}
 use borrow.Author.Tests.{eqb-true, eqb-false, eq-eqb, ne-eqb}
 use Rattle.basics.specs.Try.{if_then_else_}
+use Rattle.basics.specs.Lists.{down}
 use Rattle.basics.proofs.Tests.{yes!, no!, is}
 
 -- a is one of the list
@@ -86,3 +87,50 @@ pub inject : (xs ys : List ℕ) → Once xs → ((x : ℕ) → In x xs → In x 
 inject [] ys o f = omega arith
 inject (x ∷ xs) ys o f =
     omega (arith, inject xs (cut x ys) (o .1) (λ y m. in-cut (f y (there m)) (λ q. not-in (o .0) m (sym q))), cut-shorter (f x here))
+
+-- a list mapped
+pub in-map : {A B : Type 0} (f : A → B) {x : A} {l : List A} → In x l → In (f x) (map f l)
+in-map f here = here
+in-map f (there m) = there (in-map f m)
+
+pub map-in : {A B : Type 0} (f : A → B) (l : List A) (y : B) → In y (map f l) → (x : A) × In x l × (y ≡ f x)
+map-in f [] y m = in-none m
+map-in f (a ∷ l) y m = in-case m (λ q. (a, here, q)) (λ n. let r = map-in f l y n in (r .0, there (r .1), r .2))
+
+pub map-agree : {A B : Type 0} (f g : A → B) (l : List A) → ((x : A) → In x l → f x ≡ g x) → map f l ≡ map g l
+map-agree f g [] h = refl
+map-agree f g (a ∷ l) h = rw (h a here, map-agree f g l (λ x m. h x (there m)))
+
+pub once-map : (f : ℕ → ℕ) (l : List ℕ) → Once l → ((x y : ℕ) → In x l → In y l → f x ≡ f y → x ≡ y) → Once (map f l)
+once-map f [] o h = tt
+once-map f (a ∷ l) o h = (
+  not-in-list (f a) (map f l) (λ m. let r = map-in f l (f a) m in not-in (o .0) (r .1) (h a (r .0) here (there (r .1)) (r .2))),
+  once-map f l (o .1) (λ x y m n. h x y (there m) (there n)),
+)
+
+-- the list n − 1, .., 1, 0
+pub in-down : (n i : ℕ) → i < n → In i (down n)
+unfolding down
+in-down zero i h = absurd (omega arith)
+in-down (suc n) i h = elim (is (eqb i n)) [ yes! e ↦ rw (eqb-true i n e) here | no! e ↦ there (in-down n i (omega (arith, eqb-false i n e))) ]
+
+pub down-in : (n i : ℕ) → In i (down n) → i < n
+unfolding down
+down-in zero i m = in-none m
+down-in (suc n) i m = in-case m (λ e. omega arith) (λ k. omega (arith, down-in n i k))
+
+pub once-down : (n : ℕ) → Once (down n)
+unfolding down
+once-down zero = tt
+once-down (suc n) = (not-in-list n (down n) (λ m. let z = down-in n n m in omega arith), once-down n)
+
+pub down-length : (n : ℕ) → length (down n) ≡ n
+unfolding down
+down-length zero = refl
+down-length (suc n) = ap {B = ℕ} suc (down-length n)
+
+pub down-at : (n i : ℕ) → i < n → getD (down n) i 0 ≡ n - 1 - i
+unfolding down
+down-at zero i h = absurd (omega arith)
+down-at (suc n) zero h = omega arith
+down-at (suc n) (suc i) h = omega (arith, down-at n i (omega arith))

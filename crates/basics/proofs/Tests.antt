@@ -69,3 +69,11 @@ met false n r a e = let z : _≡_ {A = ℕ} 0 1 = cc in absurd (omega arith)
 pub went : {A B : Type 0} (x : Try A) (f : A → Try B) (b : B) → (x >>= f) ≡ ok b → (a : A) × (x ≡ ok a) × (f a ≡ ok b)
 went (ok a) f b e = (a, refl, e)
 went (refuse n) f b e = let z : _≡_ {A = ℕ} 0 1 = cc in absurd (omega arith)
+
+pub ok-same : {A : Type 0} {a b : A} → _≡_ {A = Try A} (ok a) (ok b) → a ≡ b
+ok-same e = cc
+
+-- two ways on that agree at what a step gave
+pub bind-same : {A B : Type 0} (x : Try A) (f g : A → Try B) → ((a : A) → x ≡ ok a → f a ≡ g a) → (x >>= f) ≡ (x >>= g)
+bind-same (ok a) f g h = h a refl
+bind-same (refuse n) f g h = refl

@@ -3,12 +3,19 @@
 ghost use mathlib.Core.Path.{_≡_};
 ghost use Rattle.basics.specs.Answers.{doneAnswer};
 ghost use Rattle.basics.specs.Capacity.{needCapacity};
+ghost use Rattle.basics.specs.Numbers.{more};
 
 // The Rust's `NONE`.
 pub const NONE: u16 = 65535;
 
 // `NONE` beside slots that are kept in a usize.
 pub const NO_SLOT: usize = 65535;
+
+// The greatest number of 64 bits.
+pub const MAX: u64 = 0xffff_ffff_ffff_ffff;
+
+// The same beside counts of slots.
+pub const MAX_COUNT: usize = 0xffff_ffff_ffff_ffff;
 
 // The most slots of a table.
 pub const MAX_CAPACITY: usize = 256;
@@ -45,6 +52,16 @@ pub fn wide(slot: u16) -> usize
     ensures { λ r. ⌜ r ≡ slot ⌝ }
 {
     slot as usize
+}
+
+// A counter with one more, which stops at 2^64 − 1.
+pub fn one_more(count: u64) -> u64
+    ensures { λ r. ⌜ r ≡ more count ⌝ }
+{
+    if count == MAX {
+        return count;
+    }
+    count + 1
 }
 
 // Whether a table can have this capacity: 1 for 0 and above 2^62, 2 for 257 to 2^62.

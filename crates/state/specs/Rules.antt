@@ -5,7 +5,7 @@ use Rattle.basics.specs.Capacity.{needCapacity}
 use Rattle.basics.specs.Lists.{down, keep, every, some?, first, eachSlot}
 use Rattle.key.specs.Key.{sameKey}
 use Rattle.key.specs.Bucket.{bucketOf, bucketCount, countFor}
-use Rattle.index.specs.Chain.{sized, roomFrom, canInsert, insertIndex, unlinked, removeFrom, removeIndex}
+use Rattle.index.specs.Chain.{sizes, roomFrom, canInsert, insertIndex, unlinked, removeFrom, removeIndex}
 use Rattle.index.specs.Free.{topVacant, takeVacant, releaseIndex}
 use Rattle.index.specs.Fresh.{freshIndex, noIndex, newIndex}
 use Rattle.eviction.specs.Entries.{older, freshHeap, noHeap, newHeap}
@@ -25,5 +25,5 @@ use Rattle.state.specs.Remove.{detachClean, removeClean, needClean, remo
 use Rattle.state.specs.Reads.{validate, peekFrom, peekClean, cleanEntry, coldCandidate, oldestClean, capacity, clean, loading, counters}
 
 unfoldable pub tableRules : ℕ
-unfolding more doubled powerOver needCapacity down keep every some? first eachSlot sameKey bucketOf bucketCount countFor sized roomFrom canInsert insertIndex unlinked removeFrom removeIndex topVacant takeVacant releaseIndex freshIndex noIndex newIndex older freshHeap noHeap newHeap heap-entries.sized candidateAt oldestOf victimFrom victimOf swapped upTo childOf downTo siftFrom insertHeap placeOf touchAt touchHeap popped putAt settle removeAt removeHeap occupied fresh noTable new soundSizes findFrom findKey touchNext hitAt seekAt seek victim targetOr target takeTop evict free loadInto occupy reserve capacityBusy reserveAt choose miss accessSeen access vacate loadsFor outstanding publish abort foundSeen lookup detachClean removeClean needClean remove detach validate peekFrom peekClean cleanEntry coldCandidate oldestClean capacity clean loading counters
+unfolding more doubled powerOver needCapacity down keep every some? first eachSlot sameKey bucketOf bucketCount countFor sizes roomFrom canInsert insertIndex unlinked removeFrom removeIndex topVacant takeVacant releaseIndex freshIndex noIndex newIndex older freshHeap noHeap newHeap heap-entries.sized candidateAt oldestOf victimFrom victimOf swapped upTo childOf downTo siftFrom insertHeap placeOf touchAt touchHeap popped putAt settle removeAt removeHeap occupied fresh noTable new soundSizes findFrom findKey touchNext hitAt seekAt seek victim targetOr target takeTop evict free loadInto occupy reserve capacityBusy reserveAt choose miss accessSeen access vacate loadsFor outstanding publish abort foundSeen lookup detachClean removeClean needClean remove detach validate peekFrom peekClean cleanEntry coldCandidate oldestClean capacity clean loading counters
 tableRules = 0

@@ -1,0 +1,32 @@
+-- `EvictionHeap::oldest` meets its contract: each return has the tests that led there. Assumes nothing.
+use borrow.Author.Needs.{needs}
+use Rattle.basics.proofs.Tests.{tests}
+use Rattle.eviction.specs.Entries.{sized}
+use Rattle.eviction.specs.Victim.{candidateAt, oldestOf}
+use Rattle.eviction.proofs.EvictionHeap.oldest.Statement.{statement}
+use Rattle.eviction.proofs.EvictionHeap.oldest.Tie as tie
+
+returns : tie.Need-returns
+unfolding oldestOf candidateAt sized
+returns c = search tests
+
+returns-2 : tie.Need-returns-2
+unfolding oldestOf candidateAt sized
+returns-2 c = search tests
+
+returns-3 : tie.Need-returns-3
+unfolding oldestOf candidateAt sized
+returns-3 c = search tests
+
+element-copy-out-e : tie.Need-element-copy-out-e
+element-copy-out-e c = search needs
+
+cast-t6 : tie.Need-cast-t6
+cast-t6 c = search needs
+
+returns-4 : tie.Need-returns-4
+unfolding oldestOf candidateAt sized
+returns-4 c = search tests
+
+pub oldest-spec : {M : Type 1} → statement M
+oldest-spec = tie.close (tie.spec returns returns-2 returns-3 element-copy-out-e cast-t6 returns-4)

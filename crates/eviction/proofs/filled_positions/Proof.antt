@@ -1,0 +1,51 @@
+-- `filled_positions` meets its contract: one place more is filled in each turn. Assumes nothing.
+use Prim.Native.Nat.{_-_, _≤_}
+use mathlib.Core.Path.{_≡_, refl, _∙_, ap}
+use native.Mathlib.Omega.{arith}
+use lib.ListN.{set, replicate}
+use borrow.Author.Needs.{needs}
+use Rattle.basics.specs.Numbers.{NONE}
+use Rattle.basics.proofs.Fills.{filled, same-turn, same-end}
+use Rattle.eviction.proofs.filled_positions.Statement.{statement}
+use Rattle.eviction.proofs.filled_positions.Tie as tie
+
+abbrev Inv-loop : tie.InvT-loop
+Inv-loop n positions₀ i₀ positions i = (i ≤ n) × (positions ≡ filled 256 (replicate n NONE) i)
+
+abbrev μ-loop : tie.MeasureT-loop
+μ-loop n positions₀ i₀ positions i = n - i
+
+loop-holds : tie.Need-loop-holds Inv-loop μ-loop
+loop-holds c = (omega arith, refl)
+
+mul-positions : tie.Need-mul-positions Inv-loop μ-loop
+mul-positions c = search needs
+
+array-write-positions : tie.Need-array-write-positions Inv-loop μ-loop
+array-write-positions c = search needs
+
+add-i : tie.Need-add-i Inv-loop μ-loop
+add-i c = search needs
+
+loop-less : tie.Need-loop-less Inv-loop μ-loop
+loop-less c = search needs
+
+loop-again : tie.Need-loop-again Inv-loop μ-loop
+loop-again c = (omega arith, ap (λ l. set l (c .before .loop .i) NONE) (c .before .loop .inv .1) ∙ same-turn 256 (c .before .before .args .n) (c .before .loop .i) NONE (c .loop-test .taken) (c .before .before .pre))
+
+returns : tie.Need-returns Inv-loop μ-loop
+returns c = c .before .loop .inv .1 ∙ ap (filled 256 (replicate (c .before .before .args .n) NONE)) (let e : c .before .loop .i ≡ c .before .before .args .n = omega arith in e) ∙ same-end 256 (c .before .before .args .n) NONE
+
+pub filled-positions-spec : {M : Type 1} → statement M
+filled-positions-spec =
+    tie.close
+    (tie.spec
+    Inv-loop
+    μ-loop
+    loop-holds
+    mul-positions
+    array-write-positions
+    add-i
+    loop-less
+    loop-again
+    returns)

@@ -1,0 +1,15 @@
+pub mod Ranks
+pub mod Swaps
+pub mod Sifts
+pub mod SiftUp
+pub mod SiftDown
+pub mod SiftLimit
+pub mod HeapSizes
+pub mod HeapInsert
+pub mod HeapTouch
+pub mod HeapRemove
+pub mod ChainWalks
+pub mod ChainInsert
+pub mod ChainRemove
+pub mod Stacks
+pub mod Fresh

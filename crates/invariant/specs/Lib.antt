@@ -1,0 +1,3 @@
+pub mod Heap
+pub mod Chains
+pub mod Stack
