@@ -4,16 +4,16 @@ use Prim.Native.Nat.{ℕ, zero, suc, _+_, _-_, _*_, _/_, _≤_, _<_}
 use mathlib.Core.Path.{_≡_, refl, sym, _∙_, ap}
 use mathlib.Core.Bool.{true, false}
 use mathlib.Core.List.{List}
-use mathlib.Core.Option.{none, some}
+use mathlib.Core.Option.{Option, none, some}
 use native.Mathlib.Omega.{arith}
 use lib.Dec.{leb, eqb}
-use lib.ListN.{set}
-use borrow.Author.Tests.{leb-true, lt-ltb, le-ltb, le-leb, lt-leb, eq-eqb, ne-eqb}
+use lib.ListN.{length, set}
+use borrow.Author.Tests.{leb-true, leb-false, lt-ltb, le-ltb, le-leb, lt-leb, eq-eqb, ne-eqb}
 use Rattle.basics.specs.Try.{Try, ok, refuse, _>>=_, if_then_else_}
-use Rattle.basics.specs.Refusals.{STOP}
+use Rattle.basics.specs.Refusals.{STOP, PINS}
 use Rattle.basics.specs.Numbers.{NONE}
 use Rattle.basics.specs.declared.Done.{Done}
-use Rattle.basics.proofs.Tests.{yes!, no!, is, false-true, and-left, and-right, one-less}
+use Rattle.basics.proofs.Tests.{yes!, no!, is, false-true, and-left, and-right, one-less, met}
 use Rattle.eviction.specs.declared.Entry.{Entry}
 use Rattle.eviction.specs.declared.EvictionHeap.{EvictionHeap}
 use Rattle.eviction.specs.declared.Moved.{Moved}
@@ -21,7 +21,7 @@ use Rattle.eviction.specs.Answers.{movedOf, tryDone, tryMoved}
 use Rattle.eviction.specs.Entries.{heapOf, entryOf, at, posOf, older, sized}
 use Rattle.eviction.specs.Sift.{swapped, upTo, childOf, downTo, siftFrom, siftUp, siftDown}
 use Rattle.eviction.specs.Heap.{insertHeap, placeOf, touchAt, touchHeap, popped, putAt, settle, removeAt, removeHeap}
-use Rattle.eviction.specs.Victim.{unpinned, victimFrom}
+use Rattle.eviction.specs.Victim.{unpinned, victimFrom, victimOf}
 
 -- what the test of the sizes says
 pub sized-fits : (c : ℕ) (h : EvictionHeap) → sized c h ≡ true → (c ≤ 256) × (h .len ≤ c)
@@ -148,6 +148,30 @@ unfolding victimFrom
 victim-step zero c h pins i l = absurd (omega arith)
 victim-step (suc n) c h pins i l = rw (one-less n)
 
+-- what it finds is a slot of the table
+found-below : (n c : ℕ) (h : EvictionHeap) (pins : List ℕ) (i : ℕ) {s : ℕ} → victimFrom n c h pins i ≡ ok (some s) → s < c
+unfolding victimFrom
+found-below zero c h pins i e = let z : _≡_ {A = ℕ} 0 1 = cc in absurd (omega arith)
+found-below (suc n) c h pins i {s} e =
+    elim (is (leb (h .len) i)) [
+      | yes! a ↦ let f : _≡_ {A = Try (Option ℕ)} (ok none) (ok (some s)) = rw a at e in let z : _≡_ {A = ℕ} 0 1 = cc in absurd (omega arith)
+      | no! a ↦ elim (is (leb c (at h i .slot))) [
+        | yes! b ↦ let f : _≡_ {A = Try (Option ℕ)} (refuse STOP) (ok (some s)) = rw (a, b) at e in let z : _≡_ {A = ℕ} 0 1 = cc in absurd (omega arith)
+        | no! b ↦ elim (is (unpinned pins (at h i .slot))) [
+          | yes! u ↦ let f : _≡_ {A = Try (Option ℕ)} (ok (some (at h i .slot))) (ok (some s)) = rw (a, b, u) at e in
+              let w : at h i .slot ≡ s = cc in omega (arith, leb-false c (at h i .slot) b)
+          | no! u ↦ found-below n c h pins (i + 1) (rw (a, b, u) at e)
+        ]
+      ]
+    ]
+
+pub victim-below : (places c : ℕ) (h : EvictionHeap) (pins : List ℕ) {s : ℕ} → victimOf places c h pins ≡ ok (some s) → (s < c) × (c ≤ 256)
+unfolding victimOf
+victim-below places c h pins {s} e =
+    let a = met (sized c h) STOP _ (some s) e in
+    let b = met (eqb (length pins) c) PINS _ (some s) (a .1) in
+    (found-below places c h pins 0 (b .1), sized-fits c h (a .0) .0)
+
 -- each call that passed its tests is a sift
 pub insert-goes : (c : ℕ) (h : EvictionHeap) (slot n : ℕ) → c ≤ 256 → slot < c → posOf h slot ≡ NONE → h .len < c
     → insertHeap c h slot n ≡ siftUp c (heapOf (set (h .entries) (h .len) (entryOf slot n)) (h .len + 1) (set (h .positions) slot (h .len))) (h .len)
@@ -166,6 +190,10 @@ pub touch-goes : (c : ℕ) (h : EvictionHeap) (slot n : ℕ) {p : ℕ} → place
 unfolding touchHeap touchAt
 touch-goes c h slot n {p} e o = rw (e, lt-ltb (at h p .«last_access») n o)
 
+-- the heap without the slot, its last entry at p
+abbrev pub refilled : EvictionHeap → ℕ → ℕ → EvictionHeap
+refilled h slot p = putAt (popped h slot) p (at h (h .len - 1))
+
 -- a removal: of the last place, one that stops, and one that sifts
 module _ (c : ℕ) (h : EvictionHeap) (slot : ℕ) {p : ℕ} (found : placeOf c h slot ≡ ok p) where
   pub remove-last : p ≡ h .len - 1 → removeHeap c h slot ≡ ok (popped h slot)
@@ -178,15 +206,15 @@ module _ (c : ℕ) (h : EvictionHeap) (slot : ℕ) {p : ℕ} (found : placeOf c 
     remove-stops b = rw (found, ne-eqb p (h .len - 1) inner, le-ltb _ _ b)
 
     module _ (b : at h (h .len - 1) .slot < c) {q : ℕ} (above : q ≡ (p - 1) / 2) where
-      pub remove-up : older (at (putAt (popped h slot) p (at h (h .len - 1))) p) (at (putAt (popped h slot) p (at h (h .len - 1))) q) ≡ true
-          → removeHeap c h slot ≡ siftUp c (putAt (popped h slot) p (at h (h .len - 1))) p
+      pub remove-up : older (at (refilled h slot p) p) (at (refilled h slot p) q) ≡ true
+          → removeHeap c h slot ≡ siftUp c (refilled h slot p) p
       unfolding removeHeap removeAt settle
       remove-up o =
-          let g = up-goes (putAt (popped h slot) p (at h (h .len - 1))) p above o in
+          let g = up-goes (refilled h slot p) p above o in
           rw (found, ne-eqb p (h .len - 1) inner, lt-ltb _ _ b, g .0, ne-eqb q p (g .1))
 
-      pub remove-down : older (at (putAt (popped h slot) p (at h (h .len - 1))) p) (at (putAt (popped h slot) p (at h (h .len - 1))) q) ≡ false
-          → removeHeap c h slot ≡ siftDown c (putAt (popped h slot) p (at h (h .len - 1))) p
+      pub remove-down : older (at (refilled h slot p) p) (at (refilled h slot p) q) ≡ false
+          → removeHeap c h slot ≡ siftDown c (refilled h slot p) p
       unfolding removeHeap removeAt settle
       remove-down o =
-          rw (found, ne-eqb p (h .len - 1) inner, lt-ltb _ _ b, up-stays (putAt (popped h slot) p (at h (h .len - 1))) p above o, eq-eqb p p refl)
+          rw (found, ne-eqb p (h .len - 1) inner, lt-ltb _ _ b, up-stays (refilled h slot p) p above o, eq-eqb p p refl)

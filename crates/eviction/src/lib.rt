@@ -149,7 +149,7 @@ impl EvictionHeap {
         if capacity < self.len {
             return Cold::Refused(STOP);
         }
-        if self.len <= 0 {
+        if self.len == 0 {
             return Cold::Nothing;
         }
         let e = self.entries[0];
