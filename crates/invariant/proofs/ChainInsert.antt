@@ -18,7 +18,8 @@ use Rattle.key.specs.Bucket.{bucketOf}
 use Rattle.index.specs.declared.Index.{Index}
 use Rattle.index.specs.Chain.{CHAIN, headOf, linked, insertIndex}
 use Rattle.invariant.specs.Chains.{Linked, Chains}
-use Rattle.invariant.proofs.ChainWalks.{linked-set, bucket-low, index-sized, can-insert}
+use Rattle.invariant.proofs.ChainWalks.{linked-set, index-sized, can-insert}
+use Rattle.key.proofs.Buckets.{bucket-low}
 
 -- the answer is the index with x in front of the chain b
 pub record Inserted (c : ℕ) (ix : Index) (g : ℕ → Option ℕ) (before : Chains c ix g) (x b : ℕ) (r : Try Index) : Type 0 where

@@ -20,7 +20,8 @@ use Rattle.key.specs.Bucket.{bucketOf}
 use Rattle.index.specs.declared.Index.{Index}
 use Rattle.index.specs.Chain.{CHAIN, headOf, nextOf, unlinked, removeFrom, removeIndex}
 use Rattle.invariant.specs.Chains.{Linked, Chains}
-use Rattle.invariant.proofs.ChainWalks.{linked-set, linked-low, bucket-low, index-sized}
+use Rattle.invariant.proofs.ChainWalks.{linked-set, linked-low, index-sized}
+use Rattle.key.proofs.Buckets.{bucket-low}
 
 -- the answer is the index with x out of the chain b
 pub record Removed (c : ℕ) (ix : Index) (g : ℕ → Option ℕ) (before : Chains c ix g) (x b : ℕ) (r : Try Index) : Type 0 where

@@ -15,6 +15,7 @@ use Rattle.basics.specs.Numbers.{NONE}
 use Rattle.basics.proofs.Members.{In, here, there, NotIn}
 use Rattle.key.specs.declared.CacheKey.{CacheKey}
 use Rattle.key.specs.Bucket.{bucketOf}
+use Rattle.key.proofs.Buckets.{bucket-low}
 use Rattle.index.specs.declared.Index.{Index}
 use Rattle.index.specs.Chain.{CHAIN, sizes, sized, headOf, nextOf, roomFrom, canInsert}
 use Rattle.invariant.specs.Chains.{Linked, Chains}
@@ -52,10 +53,6 @@ linked-set next c s (y ∷ ys) x v ni h =
     (h .0, h .1, rw (getD-set-other next x y v 0 (λ e. ni .0 (sym e))) (linked-set next c (getD next y 0) ys x v (ni .1) (h .2)))
 
 -- a bucket is below the bucket count
-pub bucket-low : (key : CacheKey) (n : ℕ) → 0 < n → bucketOf key n < n
-unfolding bucketOf
-bucket-low key n h = mod-lt _ h
-
 -- `can_insert`, along a chain: whether it is shorter than the steps
 room-ends : (c : ℕ) (ix : Index) (n : ℕ) → roomFrom n c ix NONE ≡ ok (ltb 0 n)
 unfolding roomFrom

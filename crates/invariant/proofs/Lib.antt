@@ -13,3 +13,17 @@ pub mod ChainInsert
 pub mod ChainRemove
 pub mod Stacks
 pub mod Fresh
+pub mod SlotKinds
+pub mod TableParts
+pub mod FreshTable
+pub mod StepParts
+pub mod StepHit
+pub mod StepLeave
+pub mod StepTokens
+pub mod StepReserve
+pub mod KeySearch
+pub mod VictimSearch
+pub mod Misses
+pub mod ValidSteps
+pub mod CallsKeep
+pub mod TableReads

@@ -99,16 +99,16 @@ reserveAt t key none = ok (capacityBusy t)
 reserveAt t key (some slot) = reserve t key slot
 
 -- "Absent, and loading not allowed or 64 slots in its chain: .. CapacityBusy, even with vacancies"; else the slot to load into
-unfoldable pub choose : State → CacheKey → Bool → List ℕ → Try (Option ℕ)
-choose t key allow pins =
+unfoldable pub choose : ℕ → Index → EvictionHeap → ℕ → CacheKey → Bool → List ℕ → Try (Option ℕ)
+choose c ix h clean key allow pins =
     if not allow then ok none else do
-      room ← canInsert (t .capacity) (t .index) key
-      if not room then ok none else target t pins
+      room ← canInsert c ix key
+      if not room then ok none else target c ix h clean pins
 
 -- no slot chosen is CapacityBusy
 unfoldable pub miss : State → CacheKey → Bool → List ℕ → Try (After Given)
 miss t key allow pins = do
-  at ← choose t key allow pins
+  at ← choose (t .capacity) (t .index) (t .eviction) (t .clean) key allow pins
   reserveAt t key at
 
 -- what `find` gave, else a load

@@ -7,20 +7,22 @@ use Rattle.basics.specs.Try.{ok, _>>=_, _>>_}
 use Rattle.basics.specs.Answers.{Fine, done}
 use Rattle.basics.specs.Capacity.{needCapacity}
 use Rattle.key.specs.Bucket.{bucketCount}
+use Rattle.index.specs.declared.Index.{Index}
 use Rattle.index.specs.Fresh.{freshIndex, noIndex}
+use Rattle.eviction.specs.declared.EvictionHeap.{EvictionHeap}
 use Rattle.eviction.specs.Entries.{freshHeap, noHeap}
 use Rattle.state.specs.declared.State.{State}
 use Rattle.state.specs.Slots.{vacantSlot}
 use Rattle.state.specs.Parts.{countsOf}
 use Rattle.state.specs.Answers.{After, told, unlessRefused}
 
--- `State::try_new`: "In a fresh table slots past the capacity are vacant, and other places past a length are 0."
-unfoldable pub fresh : ℕ → State
-fresh c = record {
+-- every slot vacant and every count 0, with this index and heap
+unfoldable pub empty : ℕ → Index → EvictionHeap → State
+empty c ix h = record {
   slots = replicate 256 vacantSlot;
   capacity = c;
-  index = freshIndex c;
-  eviction = freshHeap c;
+  index = ix;
+  eviction = h;
   «next_load_generation» = 0;
   «next_access_sequence» = 0;
   counters = countsOf 0 0 0 0 0;
@@ -28,19 +30,13 @@ fresh c = record {
   loading = 0;
 }
 
+-- `State::try_new`: "In a fresh table slots past the capacity are vacant, and other places past a length are 0."
+unfoldable pub fresh : ℕ → State
+fresh c = empty c (freshIndex c) (freshHeap c)
+
 -- "A refused new table has capacity 0, every slot vacant and every number 0."
 unfoldable pub noTable : State
-noTable = record {
-  slots = replicate 256 vacantSlot;
-  capacity = 0;
-  index = noIndex;
-  eviction = noHeap;
-  «next_load_generation» = 0;
-  «next_access_sequence» = 0;
-  counters = countsOf 0 0 0 0 0;
-  clean = 0;
-  loading = 0;
-}
+noTable = empty 0 noIndex noHeap
 
 -- `try_new`: made, or refused by 1 or 2
 unfoldable pub new : ℕ → After Fine

@@ -8,13 +8,11 @@ use Rattle.basics.specs.Refusals.{STOP, STALE}
 use Rattle.basics.specs.Numbers.{NONE}
 use Rattle.basics.specs.Answers.{Fine, done}
 use Rattle.key.specs.declared.CacheKey.{CacheKey}
-use Rattle.key.specs.Key.{sameKey}
 use Rattle.index.specs.Chain.{CHAIN, headOf, nextOf}
 use Rattle.eviction.specs.Victim.{candidateAt, oldestOf}
-use Rattle.state.specs.declared.Counters.{Counters}
 use Rattle.state.specs.declared.State.{State}
 use Rattle.state.specs.declared.LoadToken.{LoadToken}
-use Rattle.state.specs.Slots.{slotAt, isClean}
+use Rattle.state.specs.Slots.{slotAt, isClean, cleanWith}
 use Rattle.state.specs.Answers.{KeyUse}
 use Rattle.state.specs.Fresh.{sound}
 use Rattle.state.specs.Tokens.{outstanding}
@@ -32,7 +30,7 @@ peekFrom zero t key slot = if eqb slot NONE then ok none else refuse STOP
 peekFrom (suc left) t key slot =
     if eqb slot NONE then ok none else
     if leb (t .capacity) slot then refuse STOP else
-    if isClean (slotAt t slot) && sameKey (slotAt t slot .key) key then ok (some slot) else
+    if cleanWith (slotAt t slot) key then ok (some slot) else
     peekFrom left t key (nextOf (t .index) slot)
 
 -- `peek_clean`, from the head of the key's chain
@@ -58,19 +56,3 @@ unfoldable pub oldestClean : State → Try (Option ℕ)
 oldestClean t = do
   need (sound t) STOP
   oldestOf (t .capacity) (t .eviction)
-
--- "reads of capacity, clean, loading and the counters" have no first test
-unfoldable pub capacity : State → ℕ
-capacity t = t .capacity
-
--- `clean`
-unfoldable pub clean : State → ℕ
-clean t = t .clean
-
--- `loading`
-unfoldable pub loading : State → ℕ
-loading t = t .loading
-
--- the five counters
-unfoldable pub counters : State → Counters
-counters t = t .counters

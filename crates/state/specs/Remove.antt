@@ -6,6 +6,7 @@ use Rattle.basics.specs.Try.{Try, ok, _>>=_, _>>_, need}
 use Rattle.basics.specs.Refusals.{STOP, SLOT, UNCLEAN}
 use Rattle.basics.specs.Answers.{Fine, done}
 use Rattle.eviction.specs.Heap.{removeHeap}
+use Rattle.state.specs.declared.Counters.{Counters}
 use Rattle.state.specs.declared.State.{State}
 use Rattle.state.specs.Slots.{slotAt, isClean, vacantSlot}
 use Rattle.state.specs.Parts.{withSlot, withIndex, withHeap, withCounters, withHeld, countEviction, vacate}
@@ -34,6 +35,13 @@ needClean t slot = do
   need (sound t) STOP
   need (ltb slot (t .capacity)) SLOT
   need (isClean (slotAt t slot)) UNCLEAN
+
+-- the slot's key leaves, with these counters after
+unfoldable pub detachCounted : State → ℕ → Counters → After Fine
+detachCounted t slot counters = unlessRefused t do
+  needClean t slot
+  u ← detachClean t slot
+  ok (told (withCounters u counters) done)
 
 -- "Removing counts an eviction"
 unfoldable pub remove : State → ℕ → After Fine

@@ -1,0 +1,228 @@
+-- The ends of the rules of victim, access, publish and abort, each as an equation on plain variables, and what the code's answers tell of a
+-- rule. Assumes nothing.
+use Prim.Native.Nat.{ℕ, min, _+_, _-_, _≤_, _<_}
+use mathlib.Core.Path.{_≡_, refl, sym, _∙_, ap}
+use mathlib.Core.Bool.{Bool, true, false}
+use mathlib.Core.List.{List}
+use mathlib.Core.Option.{Option, none, some}
+use native.Mathlib.Omega.{arith}
+use lib.ListN.{length}
+use borrow.Author.Tests.{lt-ltb, le-ltb, le-leb, lt-leb, eq-eqb, ne-eqb}
+use Rattle.basics.specs.Try.{Try, ok, refuse, _>>=_, if_then_else_}
+use Rattle.basics.specs.Refusals.{STOP, PINS, STALE, EXHAUSTED, UNGIVEN}
+use Rattle.basics.specs.Numbers.{MAX, more}
+use Rattle.basics.specs.Answers.{done}
+use Rattle.basics.specs.declared.Done.{Done}
+use Rattle.basics.proofs.Tests.{no-ltb, some-ltb}
+use Rattle.key.specs.declared.CacheKey.{CacheKey}
+use Rattle.index.specs.declared.Index.{Index}
+use Rattle.index.specs.declared.Moved.{Moved}
+use Rattle.index.specs.Answers.{movedOf, tryDone}
+use Rattle.index.specs.Chain.{insertIndex}
+use Rattle.index.specs.Free.{takeVacant}
+use Rattle.index.proofs.Cases.{moved-back}
+use Rattle.eviction.specs.declared.EvictionHeap.{EvictionHeap}
+use Rattle.eviction.specs.declared.Cold.{Cold}
+use Rattle.eviction.specs.Answers.{coldAnswer}
+use Rattle.eviction.specs.Heap.{insertHeap}
+use Rattle.eviction.specs.Victim.{victimOf}
+use Rattle.state.specs.declared.Access.{Access}
+use Rattle.state.specs.declared.Counters.{Counters}
+use Rattle.state.specs.declared.LoadToken.{LoadToken}
+use Rattle.state.specs.declared.Slot.{Slot}
+use Rattle.state.specs.declared.State.{State}
+use Rattle.state.specs.Slots.{vacantSlot, cleanSlot, slotAt}
+use Rattle.state.specs.Parts.{withSlot, withIndex, withHeap, withNumbers, withCounters, withHeld, countsOf, vacate}
+use Rattle.state.specs.Answers.{Given, hit, inProgress, reserved, evicted, busy, accessAnswer, After, told, unlessRefused}
+use Rattle.state.specs.Fresh.{sound}
+use Rattle.state.specs.Find.{Seek, found, waits, absent, seek}
+use Rattle.state.specs.Victim.{PLACES, victim}
+use Rattle.state.specs.Access.{Freed as FreedParts, takeTop, free, nextToken, countLoad, loadInto, occupy, reserve, capacityBusy, reserveAt, choose, miss, accessSeen, access}
+use Rattle.state.specs.Tokens.{outstanding, publish, abort}
+use Rattle.search.proofs.Cases.{hitTable, waitTable}
+use Rattle.load.specs.declared.Freed.{Freed}
+use Rattle.load.specs.Answers.{tryFreed, freedAnswer}
+
+-- ---- the victim search: all of the clean slots where they are few, else 64
+module _ (c : ℕ) (h : EvictionHeap) (clean : ℕ) (pins : List ℕ) where
+  pub victim-few : clean < PLACES → victimOf clean c h pins ≡ victim c h clean pins
+  unfolding victim
+  victim-few l = let e : min clean PLACES ≡ clean = omega arith in rw e
+
+  pub victim-most : PLACES ≤ clean → victimOf PLACES c h pins ≡ victim c h clean pins
+  unfolding victim
+  victim-most l = let e : min clean PLACES ≡ PLACES = omega arith in rw e
+
+-- ---- a rule's result, from what the code answered for it
+pub chosen-told : {r v : Cold} {x : Try (Option ℕ)} → coldAnswer r ≡ x → r ≡ v → x ≡ coldAnswer v
+chosen-told e q = sym e ∙ ap coldAnswer q
+
+pub freed-told : (r : Freed) {a : Done} {x : Try FreedParts} → freedAnswer r ≡ x → r .answer ≡ a
+    → x ≡ tryFreed (record { index = r .index; heap = r .heap; clean = r .clean; left = r .left }) a
+freed-told r e q = sym e ∙ ap (tryFreed (record { index = r .index; heap = r .heap; clean = r .clean; left = r .left })) q
+
+-- a refusal hands the table back
+pub handed-back : {A : Type 0} {r : After A} {x : Try (After A)} {n : ℕ} (t : State) → r ≡ unlessRefused t (refuse n) → x ≡ refuse n → r ≡ unlessRefused t x
+handed-back t e q = rw q e
+
+-- the answer of a reservation, by whether a clean key left
+given-is : (k : LoadToken) (left : Bool) → accessAnswer (Access.Reserved k left) ≡ ok (if left then evicted k else reserved k)
+given-is k true = refl
+given-is k false = refl
+
+-- ---- a vacant slot taken from the stack, as the code hands it on
+took : (ix : Index) (h : EvictionHeap) (clean : ℕ) (d : Done)
+    → tryFreed (record { index = ix; heap = h; clean = clean; left = false }) d
+    ≡ (tryDone ix d >>= λ taken. ok (record { index = taken; heap = h; clean = clean; left = false }))
+took ix h clean Done.Done = refl
+took ix h clean (Done.Refused n) = refl
+
+pub take-top : {m : Moved} (c : ℕ) (ix : Index) (h : EvictionHeap) (clean slot : ℕ) → m ≡ movedOf ix (takeVacant c ix slot)
+    → tryFreed (record { index = m .index; heap = h; clean = clean; left = false }) (m .answer) ≡ takeTop c ix h clean slot
+unfolding takeTop
+take-top {m} c ix h clean slot e = rw (moved-back ix (takeVacant c ix slot) e) (took (m .index) h clean (m .answer))
+
+-- ---- a reservation: its ends
+module _ (t : State) (key : CacheKey) (slot : ℕ) where
+  pub no-generation : t .«next_load_generation» ≡ MAX → reserve t key slot ≡ refuse EXHAUSTED
+  unfolding reserve
+  no-generation e = rw (eq-eqb _ _ e)
+
+  module _ (g : t .«next_load_generation» ≡ MAX → ⊥) where
+    pub no-use : t .«next_access_sequence» ≡ MAX
+        → record { table = withNumbers t (t .«next_load_generation» + 1) (t .«next_access_sequence»); answer = refuse EXHAUSTED } ≡ unlessRefused t (reserve t key slot)
+    unfolding reserve
+    no-use e = rw (ne-eqb _ _ g, eq-eqb _ _ e)
+
+    module _ (n : t .«next_access_sequence» ≡ MAX → ⊥) where
+      pub no-slot : t .capacity ≤ slot → reserve t key slot ≡ refuse STOP
+      unfolding reserve occupy
+      no-slot l = rw (ne-eqb _ _ g, ne-eqb _ _ n, le-ltb _ _ l)
+
+      module _ (l : slot < t .capacity) where
+        pub not-freed : {m : ℕ} → free (t .capacity) (t .index) (t .eviction) (t .clean) slot (slotAt t slot) ≡ refuse m → reserve t key slot ≡ refuse m
+        unfolding reserve occupy
+        not-freed e = rw (ne-eqb _ _ g, ne-eqb _ _ n, lt-ltb _ _ l, e)
+
+        module _ {f : FreedParts} (freed : free (t .capacity) (t .index) (t .eviction) (t .clean) slot (slotAt t slot) ≡ ok f) where
+          pub not-linked : {m : ℕ} → insertIndex (t .capacity) (f .index) key slot ≡ refuse m → reserve t key slot ≡ refuse m
+          unfolding reserve occupy
+          not-linked e = rw (ne-eqb _ _ g, ne-eqb _ _ n, lt-ltb _ _ l, freed, e)
+
+          module _ {ix : Index} (linked : insertIndex (t .capacity) (f .index) key slot ≡ ok ix) where
+            pub not-counted : t .loading ≡ MAX → reserve t key slot ≡ refuse STOP
+            unfolding reserve occupy
+            not-counted e = rw (ne-eqb _ _ g, ne-eqb _ _ n, lt-ltb _ _ l, freed, linked, eq-eqb _ _ e)
+
+            pub reserves : {k : Counters} → k ≡ countLoad (f .left) (t .counters) → (t .loading ≡ MAX → ⊥)
+                → record { table = withCounters (loadInto t f ix key slot) k; answer = accessAnswer (Access.Reserved (nextToken t key slot) (f .left)) }
+                ≡ unlessRefused t (reserve t key slot)
+            unfolding reserve occupy loadInto
+            reserves k e = rw (k, given-is (nextToken t key slot) (f .left), ne-eqb _ _ g, ne-eqb _ _ n, lt-ltb _ _ l, freed, linked, ne-eqb _ _ e)
+
+-- ---- access: its ends, by what `seek` gave
+module _ (t : State) (key : CacheKey) (allow : Bool) (pins : List ℕ) where
+  pub access-unsound : sound t ≡ false → unlessRefused t (refuse STOP) ≡ access t key allow pins
+  unfolding access
+  access-unsound e = rw e
+
+  module _ (y : sound t ≡ true) where
+    pub access-unpinned : (length pins ≡ t .capacity → ⊥) → unlessRefused t (refuse PINS) ≡ access t key allow pins
+    unfolding access
+    access-unpinned e = rw (y, ne-eqb _ _ e)
+
+    module _ (p : length pins ≡ t .capacity) where
+      pub access-stopped : {n : ℕ} → seek t key ≡ refuse n → unlessRefused t (refuse n) ≡ access t key allow pins
+      unfolding access
+      access-stopped e = rw (y, eq-eqb _ _ p, e)
+
+      pub access-waits : {n : ℕ} → seek t key ≡ ok (record { table = waitTable t; seen = waits }) → n ≡ more (t .counters .«in_progress»)
+          → told (withCounters t (countsOf (t .counters .hits) (t .counters .misses) (t .counters .evictions) n (t .counters .«capacity_busy»))) inProgress
+          ≡ access t key allow pins
+      unfolding access accessSeen
+      access-waits e m = rw (m, y, eq-eqb _ _ p, e)
+
+      pub access-hits : {h : EvictionHeap} {slot n : ℕ} → seek t key ≡ ok (record { table = hitTable t key slot h; seen = found slot }) → n ≡ more (t .counters .hits)
+          → told (withCounters (hitTable t key slot h) (countsOf n (t .counters .misses) (t .counters .evictions) (t .counters .«in_progress») (t .counters .«capacity_busy»))) (hit slot)
+          ≡ access t key allow pins
+      unfolding access accessSeen
+      access-hits e m = rw (m, y, eq-eqb _ _ p, e)
+
+      module _ (e : seek t key ≡ ok (record { table = t; seen = absent })) where
+        pub access-unchosen : {n : ℕ} → choose (t .capacity) (t .index) (t .eviction) (t .clean) key allow pins ≡ refuse n
+            → unlessRefused t (refuse n) ≡ access t key allow pins
+        unfolding access accessSeen miss
+        access-unchosen q = rw (y, eq-eqb _ _ p, e, q)
+
+        pub access-busy : {n : ℕ} → choose (t .capacity) (t .index) (t .eviction) (t .clean) key allow pins ≡ ok none → n ≡ more (t .counters .«capacity_busy»)
+            → told (withCounters t (countsOf (t .counters .hits) (t .counters .misses) (t .counters .evictions) (t .counters .«in_progress») n)) busy
+            ≡ access t key allow pins
+        unfolding access accessSeen miss reserveAt capacityBusy
+        access-busy q m = rw (m, y, eq-eqb _ _ p, e, q)
+
+        pub access-reserves : {slot : ℕ} → choose (t .capacity) (t .index) (t .eviction) (t .clean) key allow pins ≡ ok (some slot)
+            → unlessRefused t (reserve t key slot) ≡ access t key allow pins
+        unfolding access accessSeen miss reserveAt
+        access-reserves q = rw (y, eq-eqb _ _ p, e, q)
+
+-- ---- publish: its ends
+module _ (t : State) (k : LoadToken) where
+  pub publish-unsound : sound t ≡ false → unlessRefused t (refuse STOP) ≡ publish t k
+  unfolding publish
+  publish-unsound e = rw e
+
+  module _ (y : sound t ≡ true) where
+    pub publish-stale : outstanding t k ≡ false → unlessRefused t (refuse STALE) ≡ publish t k
+    unfolding publish
+    publish-stale e = rw (y, e)
+
+    module _ (o : outstanding t k ≡ true) where
+      pub publish-ungiven : t .«next_access_sequence» < k .«access_sequence» → unlessRefused t (refuse UNGIVEN) ≡ publish t k
+      unfolding publish
+      publish-ungiven l = rw (y, o, lt-leb _ _ l)
+
+      module _ (l : k .«access_sequence» ≤ t .«next_access_sequence») {s : ℕ} (e : s ≡ k .slot) where
+        pub publish-kept : {n : ℕ} → insertHeap (t .capacity) (t .eviction) s (k .«access_sequence») ≡ refuse n → unlessRefused t (refuse n) ≡ publish t k
+        unfolding publish
+        publish-kept q = rw (y, o, le-leb _ _ l, ← e, q)
+
+        module _ {h : EvictionHeap} (put : insertHeap (t .capacity) (t .eviction) s (k .«access_sequence») ≡ ok h) where
+          pub publish-none : t .loading ≡ 0 → unlessRefused t (refuse STOP) ≡ publish t k
+          unfolding publish
+          publish-none z = rw (y, o, le-leb _ _ l, ← e, put, no-ltb _ z)
+
+          module _ (z : t .loading ≡ 0 → ⊥) where
+            pub publish-full : t .clean ≡ MAX → unlessRefused t (refuse STOP) ≡ publish t k
+            unfolding publish
+            publish-full m = rw (y, o, le-leb _ _ l, ← e, put, some-ltb _ z, eq-eqb _ _ m)
+
+            pub publishes : (t .clean ≡ MAX → ⊥)
+                → told (withHeld (withHeap (withSlot t s (cleanSlot (k .key) (k .«access_sequence»))) h) (t .clean + 1) (t .loading - 1)) done ≡ publish t k
+            unfolding publish
+            publishes m = rw (y, o, le-leb _ _ l, ← e, put, some-ltb _ z, ne-eqb _ _ m)
+
+-- ---- abort: its ends
+module _ (t : State) (k : LoadToken) where
+  pub abort-unsound : sound t ≡ false → unlessRefused t (refuse STOP) ≡ abort t k
+  unfolding abort
+  abort-unsound e = rw e
+
+  module _ (y : sound t ≡ true) where
+    pub abort-stale : outstanding t k ≡ false → unlessRefused t (refuse STALE) ≡ abort t k
+    unfolding abort
+    abort-stale e = rw (y, e)
+
+    module _ (o : outstanding t k ≡ true) {s : ℕ} (e : s ≡ k .slot) where
+      pub abort-kept : {n : ℕ} → vacate (t .capacity) (t .index) (k .key) s ≡ refuse n → unlessRefused t (refuse n) ≡ abort t k
+      unfolding abort
+      abort-kept q = rw (y, o, ← e, q)
+
+      module _ {ix : Index} (cut : vacate (t .capacity) (t .index) (k .key) s ≡ ok ix) where
+        pub abort-none : t .loading ≡ 0 → unlessRefused t (refuse STOP) ≡ abort t k
+        unfolding abort
+        abort-none z = rw (y, o, ← e, cut, no-ltb _ z)
+
+        pub aborts : {v : Slot} → v ≡ vacantSlot → (t .loading ≡ 0 → ⊥)
+            → told (withHeld (withIndex (withSlot t s v) ix) (t .clean) (t .loading - 1)) done ≡ abort t k
+        unfolding abort
+        aborts v z = rw (v, y, o, ← e, cut, some-ltb _ z)

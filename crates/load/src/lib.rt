@@ -1,0 +1,410 @@
+// SPDX-FileCopyrightText: 2026 roolrz
+// SPDX-License-Identifier: Apache-2.0
+
+// state/mod.rs, the calls that make, publish and abort a load: access (the Rust's `access_with_victim`), publish and abort. Every call
+// works on any table and any pin bytes; a refusal hands the table back as it came, but for the generation that 7 in a reservation uses up.
+ghost use mathlib.Core.Path.{_≡_};
+ghost use mathlib.Core.Bool.{true};
+ghost use lib.ListN.{length};
+ghost use Rattle.basics.specs.Try.{refuse};
+ghost use Rattle.state.specs.Answers.{accessedAfter, finishedAfter, foundAnswer, unlessRefused};
+ghost use Rattle.state.specs.Fresh.{sound as soundTable};
+ghost use Rattle.state.specs.Access.{countLoad, free as freeRule, choose as chooseRule, reserve as reserveRule, access as accessRule};
+ghost use Rattle.state.specs.Tokens.{publish as publishRule, abort as abortRule};
+ghost use Rattle.load.specs.Answers.{freedAnswer};
+ghost use Rattle.eviction.specs.Answers.{coldAnswer};
+ghost use Rattle.state.specs.Victim.{victim as victimRule, target as targetRule};
+use basics::Done;
+use eviction::Cold;
+use eviction::EvictionHeap;
+use index::Index;
+use index::Room;
+use index::Top;
+use key::CacheKey;
+use state::Access;
+use state::Accessed;
+use state::Counters;
+use state::Finished;
+use state::Found;
+use state::LoadToken;
+use state::Slot;
+use state::State;
+
+// The heap places that the victim search looks at.
+pub const PLACES: usize = 64;
+
+// Index, heap and number of clean slots once a slot is free for a key, and whether a clean key left it.
+struct Freed {
+    index: Index,
+    heap: EvictionHeap,
+    clean: usize,
+    left: bool,
+    answer: Done,
+}
+
+// The first unpinned slot among the first min(clean, 64) heap places.
+pub fn victim(capacity: usize, heap: EvictionHeap, clean: usize, pins: &[u8]) -> Cold
+    ensures { λ r. ⌜ coldAnswer r ≡ victimRule capacity heap clean (now (pins .entry)) ⌝ }
+{
+    if clean < PLACES {
+        return heap.victim(capacity, clean, pins);
+    }
+    heap.victim(capacity, PLACES, pins)
+}
+
+// The top of the free stack, else a victim.
+fn target(capacity: usize, index: Index, heap: EvictionHeap, clean: usize, pins: &[u8]) -> Cold
+    ensures { λ r. ⌜ coldAnswer r ≡ targetRule capacity index heap clean (now (pins .entry)) ⌝ }
+{
+    let top = index.vacant(capacity);
+    match top {
+        Top::Refused(why) => Cold::Refused(why),
+        Top::At(slot) => Cold::At(slot),
+        Top::Nothing => victim(capacity, heap, clean, pins),
+    }
+}
+
+// The slot to load an absent key into, or none where the answer is CapacityBusy.
+fn choose(
+    capacity: usize,
+    index: Index,
+    heap: EvictionHeap,
+    clean: usize,
+    key: CacheKey,
+    allow_load: bool,
+    pins: &[u8],
+) -> Cold
+    ensures { λ r. ⌜ coldAnswer r ≡ chooseRule capacity index heap clean key «allow_load» (now (pins .entry)) ⌝ }
+{
+    if !allow_load {
+        return Cold::Nothing;
+    }
+    let room = index.can_insert(capacity, key);
+    match room {
+        Room::Refused(why) => Cold::Refused(why),
+        Room::No => Cold::Nothing,
+        Room::Yes => target(capacity, index, heap, clean, pins),
+    }
+}
+
+// A slot is made free for a key: a clean key leaves it, or a vacant one is taken from the stack.
+fn free(
+    capacity: usize,
+    index: Index,
+    heap: EvictionHeap,
+    clean: usize,
+    slot: usize,
+    previous: Slot,
+) -> Freed
+    ensures { λ r. ⌜ freedAnswer r ≡ freeRule capacity index heap clean slot previous ⌝ }
+{
+    if previous.kind == state::LOADING {
+        return kept(index, heap, basics::STOP);
+    }
+    if previous.kind != state::CLEAN {
+        let taken = index.take_vacant(capacity, slot);
+        let answer = taken.answer;
+        let rest = taken.index;
+        return Freed {
+            index: rest,
+            heap: heap,
+            clean: clean,
+            left: false,
+            answer: answer,
+        };
+    }
+    let removed = heap.remove(capacity, slot);
+    let out = removed.answer;
+    if let Done::Refused(why) = out {
+        return kept(index, heap, why);
+    }
+    let key = previous.key;
+    let cut = index.remove(capacity, key, slot);
+    let off = cut.answer;
+    if let Done::Refused(why) = off {
+        return kept(index, heap, why);
+    }
+    if clean == 0 {
+        return kept(index, heap, basics::STOP);
+    }
+    let fewer = removed.heap;
+    let links = cut.index;
+    Freed {
+        index: links,
+        heap: fewer,
+        clean: clean - 1,
+        left: true,
+        answer: Done::Done,
+    }
+}
+
+fn kept(index: Index, heap: EvictionHeap, why: u8) -> Freed
+    ensures { λ r. ⌜ freedAnswer r ≡ refuse why ⌝ }
+{
+    Freed {
+        index: index,
+        heap: heap,
+        clean: 0,
+        left: false,
+        answer: Done::Refused(why),
+    }
+}
+
+// The counters of a load: one miss more, and one eviction more where a clean key left.
+fn count_load(left: bool, counters: Counters) -> Counters
+    ensures { λ r. ⌜ r ≡ countLoad left counters ⌝ }
+{
+    let mut more = counters;
+    more.misses = basics::one_more(counters.misses);
+    if left {
+        more.evictions = basics::one_more(counters.evictions);
+    }
+    more
+}
+
+fn refused(t: State, why: u8) -> Accessed
+    ensures { λ r. ⌜ accessedAfter r ≡ unlessRefused t (refuse why) ⌝ }
+{
+    Accessed {
+        state: t,
+        answer: Access::Refused(why),
+    }
+}
+
+// A reservation in the slot chosen: a generation is taken, then a use number.
+fn reserve(mut t: State, key: CacheKey, slot: usize) -> Accessed
+    requires { ⌜ soundTable t ≡ true ⌝ }
+    ensures { λ r. ⌜ accessedAfter r ≡ unlessRefused t (reserveRule t key slot) ⌝ }
+{
+    if t.next_load_generation == basics::MAX {
+        return refused(t, basics::EXHAUSTED);
+    }
+    let generation = t.next_load_generation + 1;
+    if t.next_access_sequence == basics::MAX {
+        t.next_load_generation = generation;
+        return Accessed {
+            state: t,
+            answer: Access::Refused(basics::EXHAUSTED),
+        };
+    }
+    let sequence = t.next_access_sequence + 1;
+    if t.capacity <= slot {
+        return refused(t, basics::STOP);
+    }
+    let previous = t.slots[slot];
+    let index = t.index;
+    let heap = t.eviction;
+    let freed = free(t.capacity, index, heap, t.clean, slot, previous);
+    let answer = freed.answer;
+    if let Done::Refused(why) = answer {
+        return refused(t, why);
+    }
+    let links = freed.index;
+    let linked = links.insert(t.capacity, key, slot);
+    let put = linked.answer;
+    if let Done::Refused(why) = put {
+        return refused(t, why);
+    }
+    if t.loading == basics::MAX_COUNT {
+        return refused(t, basics::STOP);
+    }
+    let chains = linked.index;
+    let rest = freed.heap;
+    let counters = t.counters;
+    t.loading = t.loading + 1;
+    t.slots[slot] = Slot {
+        kind: state::LOADING,
+        key: key,
+        generation: generation,
+        last_access: 0,
+    };
+    t.index = chains;
+    t.eviction = rest;
+    t.next_load_generation = generation;
+    t.next_access_sequence = sequence;
+    t.counters = count_load(freed.left, counters);
+    t.clean = freed.clean;
+    let token = LoadToken {
+        slot: slot as u16,
+        generation: generation,
+        key: key,
+        access_sequence: sequence,
+    };
+    Accessed {
+        state: t,
+        answer: Access::Reserved(token, freed.left),
+    }
+}
+
+// The Rust's `access_with_victim`, with pin bytes for its closure.
+pub fn access(mut t: State, key: CacheKey, allow_load: bool, pins: &[u8]) -> Accessed
+    ensures { λ r. ⌜ accessedAfter r ≡ accessRule t key «allow_load» (now (pins .entry)) ⌝ }
+{
+    if !state::sound(
+        t.capacity,
+        t.index.buckets,
+        t.index.free_len,
+        t.eviction.len,
+    ) {
+        return refused(t, basics::STOP);
+    }
+    if pins.len() != t.capacity {
+        return refused(t, basics::PINS);
+    }
+    let found = search::find(t, key);
+    match found {
+        Found::Refused(why) => refused(t, why),
+        Found::Nothing => {
+            let index = t.index;
+            let heap = t.eviction;
+            let chosen = choose(t.capacity, index, heap, t.clean, key, allow_load, pins);
+            match chosen {
+                Cold::Refused(why) => refused(t, why),
+                Cold::At(slot) => reserve(t, key, slot),
+                Cold::Nothing => {
+                    t.counters.capacity_busy = basics::one_more(t.counters.capacity_busy);
+                    Accessed {
+                        state: t,
+                        answer: Access::CapacityBusy,
+                    }
+                }
+            }
+        }
+        Found::At(slot) => {
+            let entry = t.slots[slot];
+            if entry.kind != state::CLEAN {
+                t.counters.in_progress = basics::one_more(t.counters.in_progress);
+                return Accessed {
+                    state: t,
+                    answer: Access::LoadInProgress,
+                };
+            }
+            let last = t.next_access_sequence;
+            let heap = t.eviction;
+            let touched = search::touch_next(t.capacity, heap, slot, last);
+            let answer = touched.answer;
+            if let Done::Refused(why) = answer {
+                return refused(t, why);
+            }
+            let sequence = last + 1;
+            let moved = touched.heap;
+            t.eviction = moved;
+            t.next_access_sequence = sequence;
+            t.slots[slot] = Slot {
+                kind: state::CLEAN,
+                key: key,
+                generation: 0,
+                last_access: sequence,
+            };
+            t.counters.hits = basics::one_more(t.counters.hits);
+            Accessed {
+                state: t,
+                answer: Access::Hit(slot),
+            }
+        }
+    }
+}
+
+fn stopped(t: State, why: u8) -> Finished
+    ensures { λ r. ⌜ finishedAfter r ≡ unlessRefused t (refuse why) ⌝ }
+{
+    Finished {
+        state: t,
+        answer: Done::Refused(why),
+    }
+}
+
+// The slot becomes clean with the token's use number.
+pub fn publish(mut t: State, token: LoadToken) -> Finished
+    ensures { λ r. ⌜ finishedAfter r ≡ publishRule t token ⌝ }
+{
+    if !state::sound(
+        t.capacity,
+        t.index.buckets,
+        t.index.free_len,
+        t.eviction.len,
+    ) {
+        return stopped(t, basics::STOP);
+    }
+    let at = basics::wide(token.slot);
+    if t.capacity <= at {
+        return stopped(t, basics::STALE);
+    }
+    let entry = t.slots[at];
+    if !state::loads_for(entry, token) {
+        return stopped(t, basics::STALE);
+    }
+    if t.next_access_sequence < token.access_sequence {
+        return stopped(t, basics::UNGIVEN);
+    }
+    let dated = token.access_sequence;
+    let heap = t.eviction;
+    let inserted = heap.insert(t.capacity, at, dated);
+    let answer = inserted.answer;
+    if let Done::Refused(why) = answer {
+        return stopped(t, why);
+    }
+    if t.loading == 0 {
+        return stopped(t, basics::STOP);
+    }
+    if t.clean == basics::MAX_COUNT {
+        return stopped(t, basics::STOP);
+    }
+    t.clean = t.clean + 1;
+    t.loading = t.loading - 1;
+    let grown = inserted.heap;
+    let key = token.key;
+    t.eviction = grown;
+    t.slots[at] = Slot {
+        kind: state::CLEAN,
+        key: key,
+        generation: 0,
+        last_access: dated,
+    };
+    Finished {
+        state: t,
+        answer: Done::Done,
+    }
+}
+
+// The slot is free again.
+pub fn abort(mut t: State, token: LoadToken) -> Finished
+    ensures { λ r. ⌜ finishedAfter r ≡ abortRule t token ⌝ }
+{
+    if !state::sound(
+        t.capacity,
+        t.index.buckets,
+        t.index.free_len,
+        t.eviction.len,
+    ) {
+        return stopped(t, basics::STOP);
+    }
+    let slot = basics::wide(token.slot);
+    if t.capacity <= slot {
+        return stopped(t, basics::STALE);
+    }
+    let entry = t.slots[slot];
+    if !state::loads_for(entry, token) {
+        return stopped(t, basics::STALE);
+    }
+    let index = t.index;
+    let key = token.key;
+    let vacated = detach::vacate(t.capacity, index, key, slot);
+    let answer = vacated.answer;
+    if let Done::Refused(why) = answer {
+        return stopped(t, why);
+    }
+    if t.loading == 0 {
+        return stopped(t, basics::STOP);
+    }
+    let fewer = t.loading - 1;
+    let links = vacated.index;
+    let vacant = state::vacant_slot();
+    t.index = links;
+    t.slots[slot] = vacant;
+    t.loading = fewer;
+    Finished {
+        state: t,
+        answer: Done::Done,
+    }
+}

@@ -1,0 +1,103 @@
+-- `find` meets its contract. The invariant: the walk from here on, with the steps left, is the whole walk. The measure is what is left. Assumes nothing.
+use mathlib.Core.Path.{_≡_, refl}
+use borrow.Author.Tests.{le-leb, lt-leb, eq-eqb, ne-eqb}
+use borrow.Author.Needs.{needs}
+use Rattle.index.specs.Chain.{CHAIN}
+use Rattle.basics.proofs.Tests.{tests, yes, no, flag}
+use Rattle.state.proofs.Cases.{sound-sizes}
+use Rattle.search.proofs.Cases.{find-step, find-end}
+use Rattle.state.specs.Find.{findFrom, findKey}
+use Rattle.search.proofs.find.Statement.{statement}
+use Rattle.search.proofs.find.Tie as tie
+
+abbrev Inv-loop : tie.InvT-loop
+Inv-loop key self slot₀ left₀ slot left = findFrom left self key slot ≡ findFrom CHAIN self key slot₀
+
+abbrev μ-loop : tie.MeasureT-loop
+μ-loop key self slot₀ left₀ slot left = left
+
+sound-requires : tie.Need-sound-requires Inv-loop μ-loop
+sound-requires c κs = search needs
+
+returns : tie.Need-returns Inv-loop μ-loop
+unfolding findKey
+returns c = search (tests, no (c .before .sound .ensures) (c .if1 .taken))
+
+head-requires : tie.Need-head-requires Inv-loop μ-loop
+head-requires c κs = search needs
+
+loop-holds : tie.Need-loop-holds Inv-loop μ-loop
+loop-holds c = refl
+
+returns-2 : tie.Need-returns-2 Inv-loop μ-loop
+unfolding findKey
+returns-2 c = rw (yes (c .before .before .before .before .before .before .before .sound .ensures) (c .before .before .before .before .before .before .if1 .left), ← c .before .before .before .head .ensures, ← c .before .before .loop .inv, find-step _ _ _ _ (c .before .loop-test .taken)) (simp (eq-eqb _ _ (c .if2 .taken)))
+
+returns-3 : tie.Need-returns-3 Inv-loop μ-loop
+unfolding findKey
+returns-3 c = rw (yes (c .before .before .before .before .before .before .before .before .sound .ensures) (c .before .before .before .before .before .before .before .if1 .left), ← c .before .before .before .before .head .ensures, ← c .before .before .before .loop .inv, find-step _ _ _ _ (c .before .before .loop-test .taken)) (simp (ne-eqb _ _ (c .before .if2 .left), le-leb _ _ (c .if3 .taken)))
+
+mul-entry : tie.Need-mul-entry Inv-loop μ-loop
+mul-entry c = let f = sound-sizes (yes (c .before .before .before .before .before .before .before .before .sound .ensures) (c .before .before .before .before .before .before .before .if1 .left)) in search needs
+
+element-copy-out-entry : tie.Need-element-copy-out-entry Inv-loop μ-loop
+element-copy-out-entry c = let f = sound-sizes (yes (c .before .before .before .before .before .before .before .before .sound .ensures) (c .before .before .before .before .before .before .before .if1 .left)) in search needs
+
+holds-key-requires : tie.Need-holds-key-requires Inv-loop μ-loop
+holds-key-requires c κs = search needs
+
+returns-4 : tie.Need-returns-4 Inv-loop μ-loop
+unfolding findKey
+returns-4 c = rw (yes (c .before .before .before .before .before .before .before .before .before .before .before .sound .ensures) (c .before .before .before .before .before .before .before .before .before .before .if1 .left), ← c .before .before .before .before .before .before .before .head .ensures, ← c .before .before .before .before .before .before .loop .inv, find-step _ _ _ _ (c .before .before .before .before .before .loop-test .taken)) (simp (ne-eqb _ _ (c .before .before .before .before .if2 .left), lt-leb _ _ (c .before .before .before .if3 .left), no (c .before .holds-key .ensures) (c .if4 .taken)))
+
+same-requires : tie.Need-same-requires Inv-loop μ-loop
+same-requires c κs = search needs
+
+returns-5 : tie.Need-returns-5 Inv-loop μ-loop
+unfolding findKey
+returns-5 c = rw (yes (c .before .before .before .before .before .before .before .before .before .before .before .before .before .before .sound .ensures) (c .before .before .before .before .before .before .before .before .before .before .before .before .before .if1 .left), ← c .before .before .before .before .before .before .before .before .before .before .head .ensures, ← c .before .before .before .before .before .before .before .before .before .loop .inv, find-step _ _ _ _ (c .before .before .before .before .before .before .before .before .loop-test .taken)) (simp (ne-eqb _ _ (c .before .before .before .before .before .before .before .if2 .left), lt-leb _ _ (c .before .before .before .before .before .before .if3 .left), yes (c .before .before .before .before .holds-key .ensures) (c .before .before .before .if4 .left), flag (c .before .same .ensures) (c .if5 .taken)))
+
+next-in-chain-requires : tie.Need-next-in-chain-requires Inv-loop μ-loop
+next-in-chain-requires c κs = search needs
+
+sub-left : tie.Need-sub-left Inv-loop μ-loop
+sub-left c = search needs
+
+loop-less : tie.Need-loop-less Inv-loop μ-loop
+loop-less c = search needs
+
+loop-again : tie.Need-loop-again Inv-loop μ-loop
+loop-again c = rw (← c .before .before .before .before .before .before .before .before .before .before .before .before .loop .inv, find-step _ _ _ _ (c .before .before .before .before .before .before .before .before .before .before .before .loop-test .taken)) (simp (ne-eqb _ _ (c .before .before .before .before .before .before .before .before .before .before .if2 .left), lt-leb _ _ (c .before .before .before .before .before .before .before .before .before .if3 .left), yes (c .before .before .before .before .before .before .before .holds-key .ensures) (c .before .before .before .before .before .before .if4 .left), flag (c .before .before .before .before .same .ensures) (c .before .before .before .if5 .left), c .next-in-chain .ensures))
+
+returns-6 : tie.Need-returns-6 Inv-loop μ-loop
+unfolding findKey
+returns-6 c = rw (yes (c .before .before .before .before .before .before .before .sound .ensures) (c .before .before .before .before .before .before .if1 .left), ← c .before .before .before .head .ensures, ← c .before .before .loop .inv, find-end _ _ _ _ (c .before .loop-test .left)) (simp (eq-eqb _ _ (c .if6 .taken)))
+
+returns-7 : tie.Need-returns-7 Inv-loop μ-loop
+unfolding findKey
+returns-7 c = rw (yes (c .before .before .before .before .before .before .before .sound .ensures) (c .before .before .before .before .before .before .if1 .left), ← c .before .before .before .head .ensures, ← c .before .before .loop .inv, find-end _ _ _ _ (c .before .loop-test .left)) (simp (ne-eqb _ _ (c .if6 .left)))
+
+pub find-spec : {M : Type 1} → statement M
+find-spec =
+    tie.close
+    (tie.spec
+    Inv-loop
+    μ-loop
+    sound-requires
+    returns
+    head-requires
+    loop-holds
+    returns-2
+    returns-3
+    mul-entry
+    element-copy-out-entry
+    holds-key-requires
+    returns-4
+    same-requires
+    returns-5
+    next-in-chain-requires
+    sub-left
+    loop-less
+    loop-again
+    returns-6
+    returns-7)

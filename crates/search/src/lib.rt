@@ -1,0 +1,181 @@
+// SPDX-FileCopyrightText: 2026 roolrz
+// SPDX-License-Identifier: Apache-2.0
+
+// state/mod.rs, the calls that search a key's chain: find (for access), lookup and peek_clean. Every call works on any table; a refusal
+// hands the table back as it came.
+ghost use mathlib.Core.Path.{_≡_};
+ghost use Rattle.eviction.specs.Answers.{movedOf as heapMovedOf};
+ghost use Rattle.state.specs.Slots.{occupied, cleanWith};
+ghost use Rattle.state.specs.Answers.{lookedAfter, foundAnswer};
+ghost use Rattle.state.specs.Find.{findKey, touchNext};
+ghost use Rattle.state.specs.Lookup.{lookup as lookupRule};
+ghost use Rattle.state.specs.Reads.{peekClean};
+use basics::Done;
+use eviction::EvictionHeap;
+use key::CacheKey;
+use state::Found;
+use state::Looked;
+use state::Slot;
+use state::State;
+
+// Whether the slot holds a key: the Rust's `Slot::key` gives one.
+fn holds_key(slot: Slot) -> bool
+    ensures { λ r. ⌜ r ≡ occupied slot ⌝ }
+{
+    if slot.kind == state::LOADING {
+        return true;
+    }
+    slot.kind == state::CLEAN
+}
+
+// Whether the slot is clean with the key.
+fn clean_with(slot: Slot, key: CacheKey) -> bool
+    ensures { λ r. ⌜ r ≡ cleanWith slot key ⌝ }
+{
+    if slot.kind != state::CLEAN {
+        return false;
+    }
+    let held = slot.key;
+    held.same(key)
+}
+
+// The next use number is taken and the slot touched, on the heap alone.
+pub fn touch_next(capacity: usize, heap: EvictionHeap, slot: usize, last: u64) -> eviction::Moved
+    ensures { λ r. ⌜ r ≡ heapMovedOf heap (touchNext capacity heap slot last) ⌝ }
+{
+    if last == basics::MAX {
+        return eviction::Moved {
+            heap: heap,
+            answer: Done::Refused(basics::EXHAUSTED),
+        };
+    }
+    heap.touch(capacity, slot, last + 1)
+}
+
+// The slot of the key's chain that holds the key, clean or loading.
+pub fn find(t: State, key: CacheKey) -> Found
+    ensures { λ r. ⌜ foundAnswer r ≡ findKey t key ⌝ }
+{
+    if !state::sound(
+        t.capacity,
+        t.index.buckets,
+        t.index.free_len,
+        t.eviction.len,
+    ) {
+        return Found::Refused(basics::STOP);
+    }
+    let mut slot = index::head(&t.index.heads, t.index.buckets, key);
+    let mut left: usize = index::MAX_CHAIN;
+    while 0 < left {
+        if slot == basics::NO_SLOT {
+            return Found::Nothing;
+        }
+        if t.capacity <= slot {
+            return Found::Refused(basics::STOP);
+        }
+        let entry = t.slots[slot];
+        if !holds_key(entry) {
+            return Found::Refused(basics::STOP);
+        }
+        let held = entry.key;
+        if held.same(key) {
+            return Found::At(slot);
+        }
+        slot = index::next_in_chain(&t.index.next, slot);
+        left -= 1;
+    }
+    if slot == basics::NO_SLOT {
+        Found::Nothing
+    } else {
+        Found::Refused(basics::STOP)
+    }
+}
+
+pub fn lookup(mut t: State, key: CacheKey) -> Looked
+    ensures { λ r. ⌜ lookedAfter r ≡ lookupRule t key ⌝ }
+{
+    let found = find(t, key);
+    match found {
+        Found::Refused(why) => {
+            return Looked {
+                state: t,
+                answer: Found::Refused(why),
+            };
+        }
+        Found::Nothing => {
+            return Looked {
+                state: t,
+                answer: Found::Nothing,
+            };
+        }
+        Found::At(slot) => {
+            let entry = t.slots[slot];
+            if entry.kind != state::CLEAN {
+                t.counters.in_progress = basics::one_more(t.counters.in_progress);
+                return Looked {
+                    state: t,
+                    answer: Found::Nothing,
+                };
+            }
+            let last = t.next_access_sequence;
+            let heap = t.eviction;
+            let touched = touch_next(t.capacity, heap, slot, last);
+            let answer = touched.answer;
+            if let Done::Refused(why) = answer {
+                return Looked {
+                    state: t,
+                    answer: Found::Refused(why),
+                };
+            }
+            let moved = touched.heap;
+            t.eviction = moved;
+            t.next_access_sequence = last + 1;
+            t.slots[slot] = Slot {
+                kind: state::CLEAN,
+                key: key,
+                generation: 0,
+                last_access: last + 1,
+            };
+            t.counters.hits = basics::one_more(t.counters.hits);
+            Looked {
+                state: t,
+                answer: Found::At(slot),
+            }
+        }
+    }
+}
+
+// The slot of the key's chain that is clean with the key; a loading one is passed.
+pub fn peek_clean(t: State, key: CacheKey) -> Found
+    ensures { λ r. ⌜ foundAnswer r ≡ peekClean t key ⌝ }
+{
+    if !state::sound(
+        t.capacity,
+        t.index.buckets,
+        t.index.free_len,
+        t.eviction.len,
+    ) {
+        return Found::Refused(basics::STOP);
+    }
+    let mut at = index::head(&t.index.heads, t.index.buckets, key);
+    let mut left: usize = index::MAX_CHAIN;
+    while 0 < left {
+        if at == basics::NO_SLOT {
+            return Found::Nothing;
+        }
+        if t.capacity <= at {
+            return Found::Refused(basics::STOP);
+        }
+        let entry = t.slots[at];
+        if clean_with(entry, key) {
+            return Found::At(at);
+        }
+        at = index::next_in_chain(&t.index.next, at);
+        left -= 1;
+    }
+    if at == basics::NO_SLOT {
+        Found::Nothing
+    } else {
+        Found::Refused(basics::STOP)
+    }
+}
