@@ -1,0 +1,91 @@
+-- The claim fails of every machine of specs/Cheats.antt, each at a list of a few calls. Assumes nothing.
+use Prim.Native.Nat.{ℕ, _+_}
+use native.Mathlib.Omega.{arith}
+use mathlib.Core.Path.{_≡_, refl, ap}
+use mathlib.Core.Bool.{true}
+use mathlib.Core.List.{List, [], _∷_}
+use Rattle.state.specs.Fresh.{fresh}
+use Rattle.ledger.specs.Calls.{Call, access, publish, reclaim, log}
+use Rattle.ledger.specs.Ledger.{begin}
+use Rattle.ledger.specs.Claim.{Shown, nothing, loads, keeps, Demand3}
+use Rattle.ledger.specs.Opened.{opened}
+use Rattle.ledger.specs.Cheats.{busyFirst, neverPublishes, sparesOldest, untouched, refusesAll, ignoresPins, publishesTwice, overReports}
+use Rattle.ledger.proofs.Samples.Premises.{meetsAll, fair-all}
+use Rattle.ledger.proofs.Samples.Words.{key, token, word, wordFine}
+
+-- "CapacityBusy before looking at stack or heap": the first access to a fresh table of 1 must reserve
+pub no-busy-first : Demand3 busyFirst → ⊥
+unfolding opened meetsAll
+no-busy-first d =
+    let kept = d 1 (omega arith) (omega arith) [] tt in
+    let (slot, low, vacant, e) = kept .next (access (key 1) true (0 ∷ [])) (record { token = tt; uses = omega arith; generations = omega arith }) in
+    let z : _≡_ {A = ℕ} 4 2 = ap word e in omega arith
+
+-- "every call refused": so it must
+pub no-refuses-all : Demand3 refusesAll → ⊥
+unfolding opened meetsAll
+no-refuses-all d =
+    let kept = d 1 (omega arith) (omega arith) [] tt in
+    let (slot, low, vacant, e) = kept .next (access (key 1) true (0 ∷ [])) (record { token = tt; uses = omega arith; generations = omega arith }) in
+    let z : _≡_ {A = ℕ} 5 2 = ap word e in omega arith
+
+-- "publish that always gives 6": after a reservation its publish must succeed
+pub no-never-publishes : Demand3 neverPublishes → ⊥
+unfolding opened meetsAll
+no-never-publishes d =
+    let cs : List Call = access (key 1) true (0 ∷ []) ∷ [] in
+    let kept = d 1 (omega arith) (omega arith) cs (fair-all (begin 1) (log neverPublishes (fresh 1) cs) refl) in
+    let z : _≡_ {A = ℕ} 1 0 = ap wordFine (kept .good (token 0 1 1 1) tt .0) in omega arith
+
+-- a token that was published must give 6
+pub no-publishes-twice : Demand3 publishesTwice → ⊥
+unfolding opened meetsAll
+no-publishes-twice d =
+    let cs : List Call = access (key 1) true (0 ∷ []) ∷ publish (token 0 1 1 1) ∷ [] in
+    let kept = d 1 (omega arith) (omega arith) cs (fair-all (begin 1) (log publishesTwice (fresh 1) cs) refl) in
+    let z : _≡_ {A = ℕ} 0 1 = ap wordFine (kept .spent (token 0 1 1 1) tt tt .0) in omega arith
+
+-- a victim that is not the least recently used: of two clean keys, slot 0 is the older one, and slot 1 goes
+pub no-spares-oldest : Demand3 sparesOldest → ⊥
+unfolding opened meetsAll
+no-spares-oldest d =
+    let pins : List ℕ = 0 ∷ 0 ∷ [] in
+    let cs : List Call = access (key 1) true pins ∷ publish (token 0 1 1 1) ∷ access (key 2) true pins ∷ publish (token 1 2 2 2) ∷ [] in
+    let kept = d 2 (omega arith) (omega arith) cs (fair-all (begin 2) (log sparesOldest (fresh 2) cs) refl) in
+    let z : _≡_ {A = ℕ} 1 0 = kept .oldestGoes (key 3) true pins (token 1 3 3 3) (record { key = key 1; slot = 0; clean = true; last = 1 }) refl refl tt in omega arith
+
+-- the pins are not looked at: with the one clean key pinned the access must be CapacityBusy
+pub no-ignores-pins : Demand3 ignoresPins → ⊥
+unfolding opened meetsAll
+no-ignores-pins d =
+    let cs : List Call = access (key 1) true (0 ∷ []) ∷ publish (token 0 1 1 1) ∷ [] in
+    let kept = d 1 (omega arith) (omega arith) cs (fair-all (begin 1) (log ignoresPins (fresh 1) cs) refl) in
+    let z : _≡_ {A = ℕ} 3 4 = ap word (kept .next (access (key 2) true (1 ∷ [])) (record { token = tt; uses = omega arith; generations = omega arith })) in omega arith
+
+-- ── tables ──
+-- how many slots show a key
+abbrev showsOne : Shown → ℕ
+showsOne nothing = 0
+showsOne (loads k) = 1
+showsOne (keeps k n) = 1
+
+unfoldable shows : List Shown → ℕ
+shows [] = 0
+shows (s ∷ ss) = showsOne s + shows ss
+
+-- "a table handed back untouched": after a reservation a slot must show its key
+pub no-untouched : Demand3 untouched → ⊥
+unfolding opened meetsAll shows
+no-untouched d =
+    let cs : List Call = access (key 1) true (0 ∷ []) ∷ [] in
+    let kept = d 1 (omega arith) (omega arith) cs (fair-all (begin 1) (log untouched (fresh 1) cs) refl) in
+    let z : _≡_ {A = ℕ} 0 1 = ap shows (kept .holds .slots) in omega arith
+
+-- "reclaim that removes one slot and reports its limit": the other slot must show nothing
+pub no-over-reports : Demand3 overReports → ⊥
+unfolding opened meetsAll shows
+no-over-reports d =
+    let pins : List ℕ = 0 ∷ 0 ∷ [] in
+    let cs : List Call = access (key 1) true pins ∷ publish (token 0 1 1 1) ∷ access (key 2) true pins ∷ publish (token 1 2 2 2) ∷ reclaim 2 pins ∷ [] in
+    let kept = d 2 (omega arith) (omega arith) cs (fair-all (begin 2) (log overReports (fresh 2) cs) refl) in
+    let z : _≡_ {A = ℕ} 1 0 = ap shows (kept .holds .slots) in omega arith

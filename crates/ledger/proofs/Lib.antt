@@ -1,0 +1,7 @@
+pub mod Keys
+pub mod Relation
+pub mod Calls
+pub mod Demand3
+pub mod StaysValid
+pub mod Samples
+pub mod Cheats

@@ -1,0 +1,43 @@
+-- Short names for what the lists of calls are written with. Assumes nothing.
+use Prim.Native.Nat.{ℕ}
+use mathlib.Core.Bool.{Bool}
+use Rattle.basics.specs.Try.{Try, ok, refuse}
+use Rattle.basics.specs.Answers.{Fine, done}
+use Rattle.key.specs.declared.CacheKey.{CacheKey}
+use Rattle.state.specs.declared.LoadToken.{LoadToken}
+use Rattle.state.specs.Answers.{Given, hit, inProgress, reserved, evicted, busy}
+use Rattle.ledger.specs.Ledger.{Held}
+
+-- a key for each number
+abbrev pub key : ℕ → CacheKey
+key n = record { file = n; kind = 0; index = 0 }
+
+-- the token of a slot, a generation, a key and a use number
+abbrev pub token : ℕ → ℕ → ℕ → ℕ → LoadToken
+token slot g n u = record { slot = slot; generation = g; key = key n; «access_sequence» = u }
+
+-- the key of a number in a slot, clean or loading, and its last use
+abbrev pub held : ℕ → ℕ → Bool → ℕ → Held
+held n slot clean last = record { key = key n; slot = slot; clean = clean; last = last }
+
+-- which word an answer of access is, and the slot in it
+abbrev pub word : Try Given → ℕ
+word (ok (hit slot)) = 0
+word (ok inProgress) = 1
+word (ok (reserved k)) = 2
+word (ok (evicted k)) = 3
+word (ok busy) = 4
+word (refuse n) = 5
+
+abbrev pub slotIn : Try Given → ℕ
+slotIn (ok (hit slot)) = slot
+slotIn (ok inProgress) = 0
+slotIn (ok (reserved k)) = k .slot
+slotIn (ok (evicted k)) = k .slot
+slotIn (ok busy) = 0
+slotIn (refuse n) = 0
+
+-- which word an answer of publish is
+abbrev pub wordFine : Try Fine → ℕ
+wordFine (ok done) = 0
+wordFine (refuse n) = 1

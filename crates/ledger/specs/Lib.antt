@@ -1,0 +1,7 @@
+pub mod Calls
+pub mod Ledger
+pub mod Expect
+pub mod Claim
+pub mod Valid
+pub mod Opened
+pub mod Cheats

@@ -1,0 +1,6 @@
+pub mod Calm
+pub mod Drawn
+pub mod Remade
+pub mod Resize
+pub mod Reclaim
+pub mod Reclaimed
