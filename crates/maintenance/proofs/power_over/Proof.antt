@@ -1,0 +1,24 @@
+-- `maintenance::power_over` meets its contract. Assumes nothing.
+use borrow.Author.Needs.{needs}
+use Rattle.maintenance.proofs.Cases.{power-one, power-half}
+use Rattle.maintenance.proofs.power_over.Statement.{statement}
+use Rattle.maintenance.proofs.power_over.Tie as tie
+
+bucket-count-requires : tie.Need-bucket-count-requires
+bucket-count-requires c κs = search needs
+
+enum-known-counted : tie.Need-enum-known-counted
+enum-known-counted c = search needs
+
+enum-told : tie.Need-enum-told
+enum-told c = search needs
+
+returns : tie.Need-returns
+returns c = power-one _ (c .before .before .before .pre) (c .before .before .bucket-count .ensures) (c .enum-told .given .1)
+
+returns-2 : tie.Need-returns-2
+returns-2 c = power-half _ (c .before .before .before .before .pre) (c .before .before .before .bucket-count .ensures) (c .before .counted .given .1)
+
+pub power-over-spec : {M : Type 1} → statement M
+power-over-spec =
+    tie.close (tie.spec bucket-count-requires enum-known-counted enum-told returns returns-2)
