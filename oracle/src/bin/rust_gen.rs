@@ -1,0 +1,76 @@
+//! Writes sheets and made-up tables to standard output. The README says what each form makes.
+
+use std::io::{BufWriter, Write, stdin, stdout};
+use std::process::ExitCode;
+
+use original::case::Case;
+use original::make_cases::cases;
+use original::make_sheets::{Maker, exhaustive, exhaustive_deep};
+use original::sheet::Record;
+
+const USAGE: &str =
+    "usage: rust_gen SEED RECORDS | --exhaustive CAPACITY LENGTH | --deep CAPACITY LENGTH | --made-up SEED COUNT | --records | --cases";
+
+/// The lines of standard input that are not empty, each without what follows a # or =.
+fn lines() -> Vec<String> {
+    let text = std::io::read_to_string(stdin()).expect("standard input");
+    let told = |line: &str| line.split(['#', '=']).next().unwrap_or("").trim().to_string();
+    text.lines().map(told).filter(|line| !line.is_empty()).collect()
+}
+
+fn main() -> ExitCode {
+    let words: Vec<String> = std::env::args().skip(1).collect();
+    let words: Vec<&str> = words.iter().map(String::as_str).collect();
+    let mut output = BufWriter::with_capacity(1 << 16, stdout().lock());
+    // Nobody reads any more: an ordinary end.
+    let mut emit = |bytes: &[u8]| {
+        if output.write_all(bytes).is_err() {
+            std::process::exit(0);
+        }
+    };
+    let number = |word: &str| word.parse::<u64>().unwrap_or_else(|_| panic!("{word} is no number. {USAGE}"));
+    match words[..] {
+        ["--exhaustive", capacity, length] => exhaustive(number(capacity) as u32, number(length) as u32, &mut emit),
+        ["--deep", capacity, length] => exhaustive_deep(number(capacity) as u32, number(length) as u32, &mut emit),
+        ["--made-up", seed, count] => {
+            let mut bytes = Vec::new();
+            cases(number(seed), number(count), &mut |case| {
+                bytes.clear();
+                case.write_bytes(&mut bytes);
+                emit(&bytes);
+            });
+        }
+        ["--records"] => {
+            for line in lines() {
+                let fields: Vec<u64> = line.split_whitespace().map(number).collect();
+                let [code, allow, kind, place, value, file, index] = fields[..] else { panic!("not seven numbers: {line}") };
+                let [code, allow, kind, place] = [code, allow, kind, place].map(|field| u8::try_from(field).expect("a byte"));
+                let mut bytes = Vec::new();
+                Record { code, allow, kind, place, number: u32::try_from(value).expect("32 bits"), file, index }.write(&mut bytes);
+                emit(&bytes);
+            }
+        }
+        ["--cases"] => {
+            for line in lines() {
+                let mut fields = line.split_whitespace().map(number);
+                let mut bytes = Vec::new();
+                Case::read(&mut |_| fields.next().expect("more numbers in the case")).write_bytes(&mut bytes);
+                assert_eq!(fields.next(), None, "fewer numbers in the case");
+                emit(&bytes);
+            }
+        }
+        [seed, records] => {
+            let mut maker = Maker::new(number(seed), number(records));
+            while maker.left > 0 {
+                maker.episode();
+                emit(&maker.out);
+                maker.out.clear();
+            }
+        }
+        _ => {
+            eprintln!("{USAGE}");
+            return ExitCode::from(2);
+        }
+    }
+    ExitCode::SUCCESS
+}

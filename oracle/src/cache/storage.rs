@@ -1,0 +1,1 @@
+//! Declared by the original mod.rs; nothing of it is used.

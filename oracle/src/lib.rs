@@ -1,0 +1,23 @@
+//! The original page cache table, built unchanged, and what runs it: document 01's calls, run sheets and made-up tables.
+//! `cache` is the original module; oracle/build puts its files beside our stand-ins.
+
+extern crate alloc;
+
+#[allow(unused, dead_code, unfulfilled_lint_expectations)]
+mod cache;
+pub mod calls;
+pub mod case;
+pub mod make_cases;
+pub mod make_sheets;
+pub mod picture;
+pub mod random;
+pub mod sheet;
+
+pub use cache::raw::{Access, CacheKey, Maintained, Table, Token};
+
+/// The original names this type of its kernel as a parameter of its lock.
+mod hal {
+    pub mod irq {
+        pub struct LocalMask;
+    }
+}
