@@ -1,6 +1,6 @@
 -- The ends of the rules of victim, access, publish and abort, each as an equation on plain variables, and what the code's answers tell of a
 -- rule. Assumes nothing.
-use Prim.Native.Nat.{ℕ, min, _+_, _-_, _≤_, _<_}
+use Prim.Native.Nat.{ℕ, zero, suc, min, _+_, _-_, _≤_, _<_}
 use mathlib.Core.Path.{_≡_, refl, sym, _∙_, ap}
 use mathlib.Core.Bool.{Bool, true, false}
 use mathlib.Core.List.{List}
@@ -10,15 +10,16 @@ use lib.ListN.{length}
 use borrow.Author.Tests.{lt-ltb, le-ltb, le-leb, lt-leb, eq-eqb, ne-eqb}
 use Rattle.basics.specs.Try.{Try, ok, refuse, _>>=_, if_then_else_}
 use Rattle.basics.specs.Refusals.{STOP, PINS, STALE, EXHAUSTED, UNGIVEN}
-use Rattle.basics.specs.Numbers.{MAX, more}
+use Rattle.basics.specs.Numbers.{NONE, MAX, more}
 use Rattle.basics.specs.Answers.{done}
 use Rattle.basics.specs.declared.Done.{Done}
 use Rattle.basics.proofs.Tests.{no-ltb, some-ltb}
 use Rattle.key.specs.declared.CacheKey.{CacheKey}
+use Rattle.key.specs.Key.{sameKey}
 use Rattle.index.specs.declared.Index.{Index}
 use Rattle.index.specs.declared.Moved.{Moved}
 use Rattle.index.specs.Answers.{movedOf, tryDone}
-use Rattle.index.specs.Chain.{insertIndex}
+use Rattle.index.specs.Chain.{CHAIN, headOf, nextOf, insertIndex}
 use Rattle.index.specs.Free.{takeVacant}
 use Rattle.index.proofs.Cases.{moved-back}
 use Rattle.eviction.specs.declared.EvictionHeap.{EvictionHeap}
@@ -31,15 +32,15 @@ use Rattle.state.specs.declared.Counters.{Counters}
 use Rattle.state.specs.declared.LoadToken.{LoadToken}
 use Rattle.state.specs.declared.Slot.{Slot}
 use Rattle.state.specs.declared.State.{State}
-use Rattle.state.specs.Slots.{vacantSlot, cleanSlot, slotAt}
+use Rattle.state.specs.Slots.{vacantSlot, cleanSlot, slotAt, occupied}
 use Rattle.state.specs.Parts.{withSlot, withIndex, withHeap, withNumbers, withCounters, withHeld, countsOf, vacate}
 use Rattle.state.specs.Answers.{Given, hit, inProgress, reserved, evicted, busy, accessAnswer, After, told, unlessRefused}
 use Rattle.state.specs.Fresh.{sound}
-use Rattle.state.specs.Find.{Seek, found, waits, absent, seek}
+use Rattle.state.specs.Find.{findFrom, findKey, Seek, found, waits, absent, seek}
 use Rattle.state.specs.Victim.{PLACES, victim}
 use Rattle.state.specs.Access.{Freed as FreedParts, takeTop, free, nextToken, countLoad, loadInto, occupy, reserve, capacityBusy, reserveAt, choose, miss, accessSeen, access}
 use Rattle.state.specs.Tokens.{outstanding, publish, abort}
-use Rattle.search.proofs.Cases.{hitTable, waitTable}
+use Rattle.search.proofs.Cases.{find-step, find-end, hitTable, waitTable}
 use Rattle.load.specs.declared.Freed.{Freed}
 use Rattle.load.specs.Answers.{tryFreed, freedAnswer}
 
@@ -60,10 +61,6 @@ chosen-told e q = sym e ∙ ap coldAnswer q
 pub freed-told : (r : Freed) {a : Done} {x : Try FreedParts} → freedAnswer r ≡ x → r .answer ≡ a
     → x ≡ tryFreed (record { index = r .index; heap = r .heap; clean = r .clean; left = r .left }) a
 freed-told r e q = sym e ∙ ap (tryFreed (record { index = r .index; heap = r .heap; clean = r .clean; left = r .left })) q
-
--- a refusal hands the table back
-pub handed-back : {A : Type 0} {r : After A} {x : Try (After A)} {n : ℕ} (t : State) → r ≡ unlessRefused t (refuse n) → x ≡ refuse n → r ≡ unlessRefused t x
-handed-back t e q = rw q e
 
 -- the answer of a reservation, by whether a clean key left
 given-is : (k : LoadToken) (left : Bool) → accessAnswer (Access.Reserved k left) ≡ ok (if left then evicted k else reserved k)
@@ -120,6 +117,50 @@ module _ (t : State) (key : CacheKey) (slot : ℕ) where
             unfolding reserve occupy loadInto
             reserves k e = rw (k, given-is (nextToken t key slot) (f .left), ne-eqb _ _ g, ne-eqb _ _ n, lt-ltb _ _ l, freed, linked, ne-eqb _ _ e)
 
+-- ---- the walk along the key's chain
+
+-- what access knows at the head of its loop: the table is as it came and passed both tests, and the rest of the walk finds what the whole one does
+pub record Walking (key : CacheKey) (pins : List ℕ) (t₀ t : State) (slot left : ℕ) : Type 0 where
+  pub same : t ≡ t₀
+  pub whole : sound t ≡ true
+  pub pinned : length pins ≡ t .capacity
+  pub rest : findFrom left t key slot ≡ findKey t key
+
+find-none : (n : ℕ) (t : State) (key : CacheKey) (s : ℕ) → s ≡ NONE → findFrom n t key s ≡ ok none
+unfolding findFrom
+find-none zero t key s e = rw (eq-eqb _ _ e)
+find-none (suc n) t key s e = rw (eq-eqb _ _ e)
+
+pub walk-starts : (t : State) (key : CacheKey) {s : ℕ} → sound t ≡ true → s ≡ headOf (t .index) key → findFrom CHAIN t key s ≡ findKey t key
+unfolding findKey
+walk-starts t key y e = rw (y, e)
+
+module _ (t : State) (key : CacheKey) (s n : ℕ) (w : findFrom n t key s ≡ findKey t key) where
+  pub walk-ends : s ≡ NONE → findKey t key ≡ ok none
+  walk-ends e = sym w ∙ find-none n t key s e
+
+  module _ (a : s ≡ NONE → ⊥) where
+    pub walk-long : n ≡ 0 → findKey t key ≡ refuse STOP
+    walk-long z = rw (← w, find-end n t key s (omega arith)) (simp (ne-eqb _ _ a))
+
+    module _ (l : n ≡ 0 → ⊥) where
+      next-step : 0 < n
+      next-step = omega arith
+
+      pub walk-astray : t .capacity ≤ s → findKey t key ≡ refuse STOP
+      walk-astray b = rw (← w, find-step n t key s next-step) (simp (ne-eqb _ _ a, le-leb _ _ b))
+
+      module _ (b : s < t .capacity) where
+        pub walk-vacant : occupied (slotAt t s) ≡ false → findKey t key ≡ refuse STOP
+        walk-vacant o = rw (← w, find-step n t key s next-step) (simp (ne-eqb _ _ a, lt-leb _ _ b, o))
+
+        module _ (o : occupied (slotAt t s) ≡ true) where
+          pub walk-meets : sameKey (slotAt t s .key) key ≡ true → findKey t key ≡ ok (some s)
+          walk-meets k = rw (← w, find-step n t key s next-step) (simp (ne-eqb _ _ a, lt-leb _ _ b, o, k))
+
+          pub walk-on : {x : ℕ} → sameKey (slotAt t s .key) key ≡ false → x ≡ nextOf (t .index) s → findFrom (n - 1) t key x ≡ findKey t key
+          walk-on k e = rw (← w, find-step n t key s next-step) (simp (ne-eqb _ _ a, lt-leb _ _ b, o, k, e))
+
 -- ---- access: its ends, by what `seek` gave
 module _ (t : State) (key : CacheKey) (allow : Bool) (pins : List ℕ) where
   pub access-unsound : sound t ≡ false → unlessRefused t (refuse STOP) ≡ access t key allow pins
@@ -160,10 +201,17 @@ module _ (t : State) (key : CacheKey) (allow : Bool) (pins : List ℕ) where
         unfolding access accessSeen miss reserveAt capacityBusy
         access-busy q m = rw (m, y, eq-eqb _ _ p, e, q)
 
-        pub access-reserves : {slot : ℕ} → choose (t .capacity) (t .index) (t .eviction) (t .clean) key allow pins ≡ ok (some slot)
-            → unlessRefused t (reserve t key slot) ≡ access t key allow pins
-        unfolding access accessSeen miss reserveAt
-        access-reserves q = rw (y, eq-eqb _ _ p, e, q)
+        module _ {slot : ℕ} (q : choose (t .capacity) (t .index) (t .eviction) (t .clean) key allow pins ≡ ok (some slot)) where
+          pub access-reserves : unlessRefused t (reserve t key slot) ≡ access t key allow pins
+          unfolding access accessSeen miss reserveAt
+          access-reserves = rw (y, eq-eqb _ _ p, e, q)
+
+          pub access-unreserved : {n : ℕ} → reserve t key slot ≡ refuse n → unlessRefused t (refuse n) ≡ access t key allow pins
+          access-unreserved r = ap (unlessRefused t) (sym r) ∙ access-reserves
+
+-- the table at the loop's head is the one that came
+pub came : {a : After Given} {t t₀ : State} (key : CacheKey) (allow : Bool) (pins : List ℕ) → t ≡ t₀ → a ≡ access t key allow pins → a ≡ access t₀ key allow pins
+came key allow pins e q = q ∙ ap (λ (s : State). access s key allow pins) e
 
 -- ---- publish: its ends
 module _ (t : State) (k : LoadToken) where

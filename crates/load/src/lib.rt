@@ -4,12 +4,9 @@
 // state/mod.rs, the calls that make, publish and abort a load: access (the Rust's `access_with_victim`), publish and abort. Every call
 // works on any table and any pin bytes; a refusal hands the table back as it came, but for the generation that 7 in a reservation uses up.
 ghost use mathlib.Core.Path.{_≡_};
-ghost use mathlib.Core.Bool.{true};
-ghost use lib.ListN.{length};
 ghost use Rattle.basics.specs.Try.{refuse};
-ghost use Rattle.state.specs.Answers.{accessedAfter, finishedAfter, foundAnswer, unlessRefused};
-ghost use Rattle.state.specs.Fresh.{sound as soundTable};
-ghost use Rattle.state.specs.Access.{countLoad, free as freeRule, choose as chooseRule, reserve as reserveRule, access as accessRule};
+ghost use Rattle.state.specs.Answers.{accessedAfter, finishedAfter, unlessRefused};
+ghost use Rattle.state.specs.Access.{countLoad, free as freeRule, choose as chooseRule, access as accessRule};
 ghost use Rattle.state.specs.Tokens.{publish as publishRule, abort as abortRule};
 ghost use Rattle.load.specs.Answers.{freedAnswer};
 ghost use Rattle.eviction.specs.Answers.{coldAnswer};
@@ -25,7 +22,6 @@ use state::Access;
 use state::Accessed;
 use state::Counters;
 use state::Finished;
-use state::Found;
 use state::LoadToken;
 use state::Slot;
 use state::State;
@@ -162,81 +158,8 @@ fn count_load(left: bool, counters: Counters) -> Counters
     more
 }
 
-fn refused(t: State, why: u8) -> Accessed
-    ensures { λ r. ⌜ accessedAfter r ≡ unlessRefused t (refuse why) ⌝ }
-{
-    Accessed {
-        state: t,
-        answer: Access::Refused(why),
-    }
-}
-
-// A reservation in the slot chosen: a generation is taken, then a use number.
-fn reserve(mut t: State, key: CacheKey, slot: usize) -> Accessed
-    requires { ⌜ soundTable t ≡ true ⌝ }
-    ensures { λ r. ⌜ accessedAfter r ≡ unlessRefused t (reserveRule t key slot) ⌝ }
-{
-    if t.next_load_generation == basics::MAX {
-        return refused(t, basics::EXHAUSTED);
-    }
-    let generation = t.next_load_generation + 1;
-    if t.next_access_sequence == basics::MAX {
-        t.next_load_generation = generation;
-        return Accessed {
-            state: t,
-            answer: Access::Refused(basics::EXHAUSTED),
-        };
-    }
-    let sequence = t.next_access_sequence + 1;
-    if t.capacity <= slot {
-        return refused(t, basics::STOP);
-    }
-    let previous = t.slots[slot];
-    let index = t.index;
-    let heap = t.eviction;
-    let freed = free(t.capacity, index, heap, t.clean, slot, previous);
-    let answer = freed.answer;
-    if let Done::Refused(why) = answer {
-        return refused(t, why);
-    }
-    let links = freed.index;
-    let linked = links.insert(t.capacity, key, slot);
-    let put = linked.answer;
-    if let Done::Refused(why) = put {
-        return refused(t, why);
-    }
-    if t.loading == basics::MAX_COUNT {
-        return refused(t, basics::STOP);
-    }
-    let chains = linked.index;
-    let rest = freed.heap;
-    let counters = t.counters;
-    t.loading = t.loading + 1;
-    t.slots[slot] = Slot {
-        kind: state::LOADING,
-        key: key,
-        generation: generation,
-        last_access: 0,
-    };
-    t.index = chains;
-    t.eviction = rest;
-    t.next_load_generation = generation;
-    t.next_access_sequence = sequence;
-    t.counters = count_load(freed.left, counters);
-    t.clean = freed.clean;
-    let token = LoadToken {
-        slot: slot as u16,
-        generation: generation,
-        key: key,
-        access_sequence: sequence,
-    };
-    Accessed {
-        state: t,
-        answer: Access::Reserved(token, freed.left),
-    }
-}
-
-// The Rust's `access_with_victim`, with pin bytes for its closure.
+// The Rust's `access_with_victim`, with pin bytes for its closure. The walk along the chain and the reservation stand here, because a function
+// of their own would take the table by value, which copies it.
 pub fn access(mut t: State, key: CacheKey, allow_load: bool, pins: &[u8]) -> Accessed
     ensures { λ r. ⌜ accessedAfter r ≡ accessRule t key «allow_load» (now (pins .entry)) ⌝ }
 {
@@ -246,32 +169,41 @@ pub fn access(mut t: State, key: CacheKey, allow_load: bool, pins: &[u8]) -> Acc
         t.index.free_len,
         t.eviction.len,
     ) {
-        return refused(t, basics::STOP);
+        return Accessed {
+            state: t,
+            answer: Access::Refused(basics::STOP),
+        };
     }
     if pins.len() != t.capacity {
-        return refused(t, basics::PINS);
+        return Accessed {
+            state: t,
+            answer: Access::Refused(basics::PINS),
+        };
     }
-    let found = search::find(t, key);
-    match found {
-        Found::Refused(why) => refused(t, why),
-        Found::Nothing => {
-            let index = t.index;
-            let heap = t.eviction;
-            let chosen = choose(t.capacity, index, heap, t.clean, key, allow_load, pins);
-            match chosen {
-                Cold::Refused(why) => refused(t, why),
-                Cold::At(slot) => reserve(t, key, slot),
-                Cold::Nothing => {
-                    t.counters.capacity_busy = basics::one_more(t.counters.capacity_busy);
-                    Accessed {
-                        state: t,
-                        answer: Access::CapacityBusy,
-                    }
-                }
-            }
+    let mut slot = index::head(&t.index.heads, t.index.buckets, key);
+    let mut left: usize = index::MAX_CHAIN;
+    while slot != basics::NO_SLOT {
+        if left == 0 {
+            return Accessed {
+                state: t,
+                answer: Access::Refused(basics::STOP),
+            };
         }
-        Found::At(slot) => {
-            let entry = t.slots[slot];
+        if t.capacity <= slot {
+            return Accessed {
+                state: t,
+                answer: Access::Refused(basics::STOP),
+            };
+        }
+        let entry = t.slots[slot];
+        if !search::holds_key(entry) {
+            return Accessed {
+                state: t,
+                answer: Access::Refused(basics::STOP),
+            };
+        }
+        let held = entry.key;
+        if held.same(key) {
             if entry.kind != state::CLEAN {
                 t.counters.in_progress = basics::one_more(t.counters.in_progress);
                 return Accessed {
@@ -284,7 +216,10 @@ pub fn access(mut t: State, key: CacheKey, allow_load: bool, pins: &[u8]) -> Acc
             let touched = search::touch_next(t.capacity, heap, slot, last);
             let answer = touched.answer;
             if let Done::Refused(why) = answer {
-                return refused(t, why);
+                return Accessed {
+                    state: t,
+                    answer: Access::Refused(why),
+                };
             }
             let sequence = last + 1;
             let moved = touched.heap;
@@ -297,9 +232,102 @@ pub fn access(mut t: State, key: CacheKey, allow_load: bool, pins: &[u8]) -> Acc
                 last_access: sequence,
             };
             t.counters.hits = basics::one_more(t.counters.hits);
-            Accessed {
+            return Accessed {
                 state: t,
                 answer: Access::Hit(slot),
+            };
+        }
+        slot = index::next_in_chain(&t.index.next, slot);
+        left -= 1;
+    }
+    let index = t.index;
+    let heap = t.eviction;
+    let chosen = choose(t.capacity, index, heap, t.clean, key, allow_load, pins);
+    match chosen {
+        Cold::Refused(why) => {
+            return Accessed {
+                state: t,
+                answer: Access::Refused(why),
+            };
+        }
+        Cold::Nothing => {
+            t.counters.capacity_busy = basics::one_more(t.counters.capacity_busy);
+            return Accessed {
+                state: t,
+                answer: Access::CapacityBusy,
+            };
+        }
+        Cold::At(into) => {
+            if t.next_load_generation == basics::MAX {
+                return Accessed {
+                    state: t,
+                    answer: Access::Refused(basics::EXHAUSTED),
+                };
+            }
+            let generation = t.next_load_generation + 1;
+            if t.next_access_sequence == basics::MAX {
+                t.next_load_generation = generation;
+                return Accessed {
+                    state: t,
+                    answer: Access::Refused(basics::EXHAUSTED),
+                };
+            }
+            let sequence = t.next_access_sequence + 1;
+            if t.capacity <= into {
+                return Accessed {
+                    state: t,
+                    answer: Access::Refused(basics::STOP),
+                };
+            }
+            let previous = t.slots[into];
+            let freed = free(t.capacity, index, heap, t.clean, into, previous);
+            let answer = freed.answer;
+            if let Done::Refused(why) = answer {
+                return Accessed {
+                    state: t,
+                    answer: Access::Refused(why),
+                };
+            }
+            let links = freed.index;
+            let linked = links.insert(t.capacity, key, into);
+            let put = linked.answer;
+            if let Done::Refused(why) = put {
+                return Accessed {
+                    state: t,
+                    answer: Access::Refused(why),
+                };
+            }
+            if t.loading == basics::MAX_COUNT {
+                return Accessed {
+                    state: t,
+                    answer: Access::Refused(basics::STOP),
+                };
+            }
+            let chains = linked.index;
+            let rest = freed.heap;
+            let counters = t.counters;
+            t.loading = t.loading + 1;
+            t.slots[into] = Slot {
+                kind: state::LOADING,
+                key: key,
+                generation: generation,
+                last_access: 0,
+            };
+            t.index = chains;
+            t.eviction = rest;
+            t.next_load_generation = generation;
+            t.next_access_sequence = sequence;
+            t.counters = count_load(freed.left, counters);
+            t.clean = freed.clean;
+            let token = LoadToken {
+                slot: into as u16,
+                generation: generation,
+                key: key,
+                access_sequence: sequence,
+            };
+            Accessed {
+                state: t,
+                answer: Access::Reserved(token, freed.left),
             }
         }
     }

@@ -1,8 +1,8 @@
 // SPDX-FileCopyrightText: 2026 roolrz
 // SPDX-License-Identifier: Apache-2.0
 
-// state/mod.rs, the calls that search a key's chain: find (for access), lookup and peek_clean. Every call works on any table; a refusal
-// hands the table back as it came.
+// state/mod.rs, the calls that search a key's chain: find (for lookup; access, in crate load, makes the same walk itself), lookup and
+// peek_clean. Every call works on any table; a refusal hands the table back as it came.
 ghost use mathlib.Core.Path.{_≡_};
 ghost use Rattle.eviction.specs.Answers.{movedOf as heapMovedOf};
 ghost use Rattle.state.specs.Slots.{occupied, cleanWith};
@@ -19,7 +19,7 @@ use state::Slot;
 use state::State;
 
 // Whether the slot holds a key: the Rust's `Slot::key` gives one.
-fn holds_key(slot: Slot) -> bool
+pub fn holds_key(slot: Slot) -> bool
     ensures { λ r. ⌜ r ≡ occupied slot ⌝ }
 {
     if slot.kind == state::LOADING {

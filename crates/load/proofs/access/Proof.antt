@@ -1,156 +1,253 @@
--- `load::access` meets its contract: each return is an end of the rule. Assumes nothing.
-use mathlib.Core.Path.{_∙_}
+-- `load::access` meets its contract: each return is an end of the rule. The invariant: the table is as it came, and the walk from here on, with
+-- the steps left, is the whole walk. The measure is what is left. Assumes nothing.
+use mathlib.Core.Path.{_≡_, refl, _∙_, ap}
 use native.Mathlib.Omega.{arith}
-use Rattle.basics.proofs.Tests.{yes, no}
+use Rattle.basics.proofs.Tests.{yes, no, flag}
+use Rattle.index.specs.Chain.{insertIndex}
+use Rattle.state.specs.declared.State.{State}
 use Rattle.state.specs.Find.{touchNext}
-use Rattle.search.proofs.Cases.{find-in, seek-refused, seek-absent, seek-waits, seek-stops, seek-hits, touched-next}
-use Rattle.state.proofs.Cases.{found-told, heap-told}
-use Rattle.load.proofs.Cases.{chosen-told, access-unsound, access-unpinned, access-stopped, access-waits, access-hits, access-unchosen, access-busy, access-reserves}
+use Rattle.state.specs.Access.{loadInto}
+use Rattle.state.proofs.Cases.{sound-sizes, heap-told, index-told}
+use Rattle.search.proofs.Cases.{seek-refused, seek-absent, seek-waits, seek-stops, seek-hits, touched-next}
+use Rattle.load.proofs.Cases.{chosen-told, freed-told, Walking, walk-starts, walk-ends, walk-long, walk-astray, walk-vacant, walk-meets, walk-on, came, access-unsound, access-unpinned, access-stopped, access-waits, access-hits, access-unchosen, access-busy, access-reserves, access-unreserved, no-generation, no-use, no-slot, not-freed, not-linked, not-counted, reserves}
 use borrow.Author.Needs.{needs}
 use Rattle.load.proofs.access.Statement.{statement}
 use Rattle.load.proofs.access.Tie as tie
 
-sound-requires : tie.Need-sound-requires
+abbrev Inv-loop : tie.InvT-loop
+Inv-loop key allow-load pins t₀ slot₀ left₀ t slot left = Walking key pins t₀ t slot left
+
+abbrev μ-loop : tie.MeasureT-loop
+μ-loop key allow-load pins t₀ slot₀ left₀ t slot left = left
+
+sound-requires : tie.Need-sound-requires Inv-loop μ-loop
 sound-requires c κs = search needs
 
-refused-requires : tie.Need-refused-requires
-refused-requires c κs = search needs
+returns : tie.Need-returns Inv-loop μ-loop
+returns c = access-unsound _ _ _ _ (no (c .before .sound .ensures) (c .if1 .taken))
 
-returns : tie.Need-returns
-returns c = c .refused .ensures ∙ access-unsound _ _ _ _ (no (c .before .before .sound .ensures) (c .before .if1 .taken))
+returns-2 : tie.Need-returns-2 Inv-loop μ-loop
+returns-2 c = access-unpinned _ _ _ _ (yes (c .before .before .sound .ensures) (c .before .if1 .left)) (c .if2 .taken)
 
-refused-requires-2 : tie.Need-refused-requires-2
-refused-requires-2 c κs = search needs
+head-requires : tie.Need-head-requires Inv-loop μ-loop
+head-requires c κs = search needs
 
-returns-2 : tie.Need-returns-2
-returns-2 c = c .refused2 .ensures ∙ access-unpinned _ _ _ _ (yes (c .before .before .before .sound .ensures) (c .before .before .if1 .left)) (c .before .if2 .taken)
+loop-holds : tie.Need-loop-holds Inv-loop μ-loop
+loop-holds c = record { same = refl; whole = yes (c .before .before .before .before .before .sound .ensures) (c .before .before .before .before .if1 .left); pinned = (c .before .before .before .if2 .left); rest = walk-starts _ _ (yes (c .before .before .before .before .before .sound .ensures) (c .before .before .before .before .if1 .left)) (c .head .ensures) }
 
-find-requires : tie.Need-find-requires
-find-requires c κs = search needs
+returns-3 : tie.Need-returns-3 Inv-loop μ-loop
+returns-3 c = came _ _ _ (c .before .before .loop .inv .same) (access-stopped _ _ _ _ (c .before .before .loop .inv .whole) (c .before .before .loop .inv .pinned) (seek-refused _ _ (walk-long _ _ _ _ (c .before .before .loop .inv .rest) (c .before .loop-test .taken) (c .if3 .taken))))
 
-enum-known-found : tie.Need-enum-known-found
-enum-known-found c = search needs
+returns-4 : tie.Need-returns-4 Inv-loop μ-loop
+returns-4 c = came _ _ _ (c .before .before .before .loop .inv .same) (access-stopped _ _ _ _ (c .before .before .before .loop .inv .whole) (c .before .before .before .loop .inv .pinned) (seek-refused _ _ (walk-astray _ _ _ _ (c .before .before .before .loop .inv .rest) (c .before .before .loop-test .taken) (c .before .if3 .left) (c .if4 .taken))))
 
-refused-requires-3 : tie.Need-refused-requires-3
-refused-requires-3 c κs = search needs
+mul-entry : tie.Need-mul-entry Inv-loop μ-loop
+mul-entry c = let f = sound-sizes (c .before .before .before .loop .inv .whole) .small in let l = (c .if4 .left) in omega (arith, f, l)
 
-enum-told : tie.Need-enum-told
-enum-told c = search needs
+element-copy-out-entry : tie.Need-element-copy-out-entry Inv-loop μ-loop
+element-copy-out-entry c = let f = sound-sizes (c .before .before .before .loop .inv .whole) .small in let l = (c .if4 .left) in omega (arith, f, l)
 
-choose-requires : tie.Need-choose-requires
-choose-requires c κs = search needs
+holds-key-requires : tie.Need-holds-key-requires Inv-loop μ-loop
+holds-key-requires c κs = search needs
 
-enum-known-chosen : tie.Need-enum-known-chosen
-enum-known-chosen c = search needs
+returns-5 : tie.Need-returns-5 Inv-loop μ-loop
+returns-5 c = came _ _ _ (c .before .before .before .before .before .before .loop .inv .same) (access-stopped _ _ _ _ (c .before .before .before .before .before .before .loop .inv .whole) (c .before .before .before .before .before .before .loop .inv .pinned) (seek-refused _ _ (walk-vacant _ _ _ _ (c .before .before .before .before .before .before .loop .inv .rest) (c .before .before .before .before .before .loop-test .taken) (c .before .before .before .before .if3 .left) (c .before .before .before .if4 .left) (no (c .before .holds-key .ensures) (c .if5 .taken)))))
 
-refused-requires-4 : tie.Need-refused-requires-4
-refused-requires-4 c κs = search needs
+same-requires : tie.Need-same-requires Inv-loop μ-loop
+same-requires c κs = search needs
 
-enum-known-chosen-2 : tie.Need-enum-known-chosen-2
-enum-known-chosen-2 c = search needs
-
-reserve-requires : tie.Need-reserve-requires
-reserve-requires c κs = (yes (c .before .before .before .before .before .before .before .before .before .before .before .sound .ensures) (c .before .before .before .before .before .before .before .before .before .before .if1 .left))
-
-enum-told-2 : tie.Need-enum-told-2
-enum-told-2 c = search needs
-
-one-more-requires : tie.Need-one-more-requires
+one-more-requires : tie.Need-one-more-requires Inv-loop μ-loop
 one-more-requires c κs = search needs
 
-enum-known-found-2 : tie.Need-enum-known-found-2
-enum-known-found-2 c = search needs
+returns-6 : tie.Need-returns-6 Inv-loop μ-loop
+returns-6 c = came _ _ _ (c .before .before .before .before .before .before .before .before .before .before .before .before .before .loop .inv .same) (access-waits _ _ _ _ (c .before .before .before .before .before .before .before .before .before .before .before .before .before .loop .inv .whole) (c .before .before .before .before .before .before .before .before .before .before .before .before .before .loop .inv .pinned) (seek-waits _ _ (walk-meets _ _ _ _ (c .before .before .before .before .before .before .before .before .before .before .before .before .before .loop .inv .rest) (c .before .before .before .before .before .before .before .before .before .before .before .before .loop-test .taken) (c .before .before .before .before .before .before .before .before .before .before .before .if3 .left) (c .before .before .before .before .before .before .before .before .before .before .if4 .left) (yes (c .before .before .before .before .before .before .before .before .holds-key .ensures) (c .before .before .before .before .before .before .before .if5 .left)) (flag (c .before .before .before .before .before .same .ensures) (c .before .before .before .before .if6 .taken))) (c .before .before .if7 .taken)) (c .before .one-more .ensures))
 
-mul-entry : tie.Need-mul-entry
-mul-entry c = let l = find-in _ _ (found-told (c .before .before .before .find .ensures) (c .before .found2 .given .1)) in omega (arith, l)
-
-element-copy-out-entry : tie.Need-element-copy-out-entry
-element-copy-out-entry c = let l = find-in _ _ (found-told (c .before .before .before .find .ensures) (c .before .found2 .given .1)) in omega (arith, l)
-
-one-more-requires-2 : tie.Need-one-more-requires-2
-one-more-requires-2 c κs = search needs
-
-returns-3 : tie.Need-returns-3
-returns-3 c = access-waits _ _ _ _ (yes (c .before .before .before .before .before .before .before .before .before .before .before .sound .ensures) (c .before .before .before .before .before .before .before .before .before .before .if1 .left)) (c .before .before .before .before .before .before .before .before .before .if2 .left) (seek-waits _ _ (found-told (c .before .before .before .before .before .before .before .before .find .ensures) (c .before .before .before .before .before .before .found2 .given .1)) (c .before .before .if3 .taken)) (c .before .one-more2 .ensures)
-
-touch-next-requires : tie.Need-touch-next-requires
+touch-next-requires : tie.Need-touch-next-requires Inv-loop μ-loop
 touch-next-requires c κs = search needs
 
-enum-known-answer : tie.Need-enum-known-answer
+enum-known-answer : tie.Need-enum-known-answer Inv-loop μ-loop
 enum-known-answer c = search needs
 
-refused-requires-5 : tie.Need-refused-requires-5
-refused-requires-5 c κs = search needs
+returns-7 : tie.Need-returns-7 Inv-loop μ-loop
+returns-7 c = came _ _ _ (c .before .before .before .before .before .before .before .before .before .before .before .before .before .before .before .before .loop .inv .same) (access-stopped _ _ _ _ (c .before .before .before .before .before .before .before .before .before .before .before .before .before .before .before .before .loop .inv .whole) (c .before .before .before .before .before .before .before .before .before .before .before .before .before .before .before .before .loop .inv .pinned) (seek-stops _ _ (walk-meets _ _ _ _ (c .before .before .before .before .before .before .before .before .before .before .before .before .before .before .before .before .loop .inv .rest) (c .before .before .before .before .before .before .before .before .before .before .before .before .before .before .before .loop-test .taken) (c .before .before .before .before .before .before .before .before .before .before .before .before .before .before .if3 .left) (c .before .before .before .before .before .before .before .before .before .before .before .before .before .if4 .left) (yes (c .before .before .before .before .before .before .before .before .before .before .before .holds-key .ensures) (c .before .before .before .before .before .before .before .before .before .before .if5 .left)) (flag (c .before .before .before .before .before .before .before .before .same .ensures) (c .before .before .before .before .before .before .before .if6 .taken))) (c .before .before .before .before .before .if7 .left) (heap-told _ (touchNext _ _ _ _) (c .before .before .before .touch-next .ensures) (c .before .answer .given .1))))
 
-returns-4 : tie.Need-returns-4
-returns-4 c = c .refused5 .ensures ∙ access-stopped _ _ _ _ (yes (c .before .before .before .before .before .before .before .before .before .before .before .before .before .before .before .sound .ensures) (c .before .before .before .before .before .before .before .before .before .before .before .before .before .before .if1 .left)) (c .before .before .before .before .before .before .before .before .before .before .before .before .before .if2 .left) (seek-stops _ _ (found-told (c .before .before .before .before .before .before .before .before .before .before .before .before .find .ensures) (c .before .before .before .before .before .before .before .before .before .before .found2 .given .1)) (c .before .before .before .before .before .before .if3 .left) (heap-told _ (touchNext _ _ _ _) (c .before .before .before .before .touch-next .ensures) (c .before .before .answer .given .1)))
+enum-told : tie.Need-enum-told Inv-loop μ-loop
+enum-told c = search needs
 
-enum-told-3 : tie.Need-enum-told-3
-enum-told-3 c = search needs
+add-sequence : tie.Need-add-sequence Inv-loop μ-loop
+add-sequence c = let l = touched-next _ _ _ _ (heap-told _ (touchNext _ _ _ _) (c .before .before .touch-next .ensures) (c .enum-told .given .1)) in let e = ap (λ (s : State). s .«next_access_sequence») (c .before .before .before .before .before .before .before .before .before .before .before .before .before .before .before .loop .inv .same) in omega (arith, c .before .before .before .before .before .before .before .before .before .before .before .before .before .before .before .before .before .before .before .before .before .before .before .good, e, l)
 
-add-sequence : tie.Need-add-sequence
-add-sequence c = let l = touched-next _ _ _ _ (heap-told _ (touchNext _ _ _ _) (c .before .before .touch-next .ensures) (c .enum-told3 .given .1)) in omega (arith, c .before .before .before .before .before .before .before .before .before .before .before .before .before .before .before .good, l)
+mul-t65 : tie.Need-mul-t65 Inv-loop μ-loop
+mul-t65 c = let f = sound-sizes (c .before .before .before .before .before .before .before .before .before .before .before .before .before .before .before .before .loop .inv .whole) .small in let l = (c .before .before .before .before .before .before .before .before .before .before .before .before .before .if4 .left) in omega (arith, f, l)
 
-mul-t42 : tie.Need-mul-t42
-mul-t42 c = let l = find-in _ _ (found-told (c .before .before .before .before .before .before .before .before .before .before .before .find .ensures) (c .before .before .before .before .before .before .before .before .before .found2 .given .1)) in omega (arith, l)
+element-set-from-t : tie.Need-element-set-from-t Inv-loop μ-loop
+element-set-from-t c = let f = sound-sizes (c .before .before .before .before .before .before .before .before .before .before .before .before .before .before .before .before .loop .inv .whole) .small in let l = (c .before .before .before .before .before .before .before .before .before .before .before .before .before .if4 .left) in omega (arith, f, l)
 
-element-set-from-t : tie.Need-element-set-from-t
-element-set-from-t c = let l = find-in _ _ (found-told (c .before .before .before .before .before .before .before .before .before .before .before .find .ensures) (c .before .before .before .before .before .before .before .before .before .found2 .given .1)) in omega (arith, l)
+one-more-requires-2 : tie.Need-one-more-requires-2 Inv-loop μ-loop
+one-more-requires-2 c κs = search needs
 
-one-more-requires-3 : tie.Need-one-more-requires-3
+returns-8 : tie.Need-returns-8 Inv-loop μ-loop
+returns-8 c = came _ _ _ (c .before .before .before .before .before .before .before .before .before .before .before .before .before .before .before .before .before .before .loop .inv .same) (access-hits _ _ _ _ (c .before .before .before .before .before .before .before .before .before .before .before .before .before .before .before .before .before .before .loop .inv .whole) (c .before .before .before .before .before .before .before .before .before .before .before .before .before .before .before .before .before .before .loop .inv .pinned) (seek-hits _ _ (walk-meets _ _ _ _ (c .before .before .before .before .before .before .before .before .before .before .before .before .before .before .before .before .before .before .loop .inv .rest) (c .before .before .before .before .before .before .before .before .before .before .before .before .before .before .before .before .before .loop-test .taken) (c .before .before .before .before .before .before .before .before .before .before .before .before .before .before .before .before .if3 .left) (c .before .before .before .before .before .before .before .before .before .before .before .before .before .before .before .if4 .left) (yes (c .before .before .before .before .before .before .before .before .before .before .before .before .before .holds-key .ensures) (c .before .before .before .before .before .before .before .before .before .before .before .before .if5 .left)) (flag (c .before .before .before .before .before .before .before .before .before .before .same .ensures) (c .before .before .before .before .before .before .before .before .before .if6 .taken))) (c .before .before .before .before .before .before .before .if7 .left) (heap-told _ (touchNext _ _ _ _) (c .before .before .before .before .before .touch-next .ensures) (c .before .before .before .enum-told .given .1))) (c .before .one-more2 .ensures))
+
+next-in-chain-requires : tie.Need-next-in-chain-requires Inv-loop μ-loop
+next-in-chain-requires c κs = search needs
+
+sub-left : tie.Need-sub-left Inv-loop μ-loop
+sub-left c = search needs
+
+loop-less : tie.Need-loop-less Inv-loop μ-loop
+loop-less c = search needs
+
+loop-again : tie.Need-loop-again Inv-loop μ-loop
+loop-again c = record { same = c .before .before .before .before .before .before .before .before .before .before .before .before .loop .inv .same; whole = c .before .before .before .before .before .before .before .before .before .before .before .before .loop .inv .whole; pinned = c .before .before .before .before .before .before .before .before .before .before .before .before .loop .inv .pinned; rest = walk-on _ _ _ _ (c .before .before .before .before .before .before .before .before .before .before .before .before .loop .inv .rest) (c .before .before .before .before .before .before .before .before .before .before .before .loop-test .taken) (c .before .before .before .before .before .before .before .before .before .before .if3 .left) (c .before .before .before .before .before .before .before .before .before .if4 .left) (yes (c .before .before .before .before .before .before .before .holds-key .ensures) (c .before .before .before .before .before .before .if5 .left)) (flag (c .before .before .before .before .same .ensures) (c .before .before .before .if6 .left)) (c .next-in-chain .ensures) }
+
+choose-requires : tie.Need-choose-requires Inv-loop μ-loop
+choose-requires c κs = search needs
+
+enum-known-chosen : tie.Need-enum-known-chosen Inv-loop μ-loop
+enum-known-chosen c = search needs
+
+returns-9 : tie.Need-returns-9 Inv-loop μ-loop
+returns-9 c = came _ _ _ (c .before .before .before .before .before .before .before .loop .inv .same) (access-unchosen _ _ _ _ (c .before .before .before .before .before .before .before .loop .inv .whole) (c .before .before .before .before .before .before .before .loop .inv .pinned) (seek-absent _ _ (walk-ends _ _ _ _ (c .before .before .before .before .before .before .before .loop .inv .rest) (c .before .before .before .before .before .before .loop-test .left))) (chosen-told (c .before .before .before .choose .ensures) (c .before .chosen .given .1)))
+
+enum-told-2 : tie.Need-enum-told-2 Inv-loop μ-loop
+enum-told-2 c = search needs
+
+one-more-requires-3 : tie.Need-one-more-requires-3 Inv-loop μ-loop
 one-more-requires-3 c κs = search needs
 
-returns-5 : tie.Need-returns-5
-returns-5 c = c .refused3 .ensures ∙ access-stopped _ _ _ _ (yes (c .before .before .before .before .before .before .before .sound .ensures) (c .before .before .before .before .before .before .if1 .left)) (c .before .before .before .before .before .if2 .left) (seek-refused _ _ (found-told (c .before .before .before .before .find .ensures) (c .before .before .found .given .1)))
+returns-10 : tie.Need-returns-10 Inv-loop μ-loop
+returns-10 c = came _ _ _ (c .before .before .before .before .before .before .before .before .loop .inv .same) (access-busy _ _ _ _ (c .before .before .before .before .before .before .before .before .loop .inv .whole) (c .before .before .before .before .before .before .before .before .loop .inv .pinned) (seek-absent _ _ (walk-ends _ _ _ _ (c .before .before .before .before .before .before .before .before .loop .inv .rest) (c .before .before .before .before .before .before .before .loop-test .left))) (chosen-told (c .before .before .before .before .choose .ensures) (c .before .before .enum-told2 .given .1)) (c .before .one-more3 .ensures))
 
-returns-6 : tie.Need-returns-6
-returns-6 c = c .refused4 .ensures ∙ access-unchosen _ _ _ _ (yes (c .before .before .before .before .before .before .before .before .before .before .before .before .sound .ensures) (c .before .before .before .before .before .before .before .before .before .before .before .if1 .left)) (c .before .before .before .before .before .before .before .before .before .before .if2 .left) (seek-absent _ _ (found-told (c .before .before .before .before .before .before .before .before .before .find .ensures) (c .before .before .before .before .before .before .before .enum-told .given .1))) (chosen-told (c .before .before .before .before .choose .ensures) (c .before .before .chosen .given .1))
+enum-known-chosen-2 : tie.Need-enum-known-chosen-2 Inv-loop μ-loop
+enum-known-chosen-2 c = search needs
 
-returns-7 : tie.Need-returns-7
-returns-7 c = c .reserve .ensures ∙ access-reserves _ _ _ _ (yes (c .before .before .before .before .before .before .before .before .before .before .before .before .sound .ensures) (c .before .before .before .before .before .before .before .before .before .before .before .if1 .left)) (c .before .before .before .before .before .before .before .before .before .before .if2 .left) (seek-absent _ _ (found-told (c .before .before .before .before .before .before .before .before .before .find .ensures) (c .before .before .before .before .before .before .before .enum-told .given .1))) (chosen-told (c .before .before .before .before .choose .ensures) (c .before .before .chosen2 .given .1))
+returns-11 : tie.Need-returns-11 Inv-loop μ-loop
+returns-11 c = came _ _ _ (c .before .before .before .before .before .before .before .before .loop .inv .same) (access-unreserved _ _ _ _ (c .before .before .before .before .before .before .before .before .loop .inv .whole) (c .before .before .before .before .before .before .before .before .loop .inv .pinned) (seek-absent _ _ (walk-ends _ _ _ _ (c .before .before .before .before .before .before .before .before .loop .inv .rest) (c .before .before .before .before .before .before .before .loop-test .left))) (chosen-told (c .before .before .before .before .choose .ensures) (c .before .before .chosen2 .given .1)) (no-generation _ _ _ (c .if8 .taken)))
 
-returns-8 : tie.Need-returns-8
-returns-8 c = access-busy _ _ _ _ (yes (c .before .before .before .before .before .before .before .before .before .before .before .before .sound .ensures) (c .before .before .before .before .before .before .before .before .before .before .before .if1 .left)) (c .before .before .before .before .before .before .before .before .before .before .if2 .left) (seek-absent _ _ (found-told (c .before .before .before .before .before .before .before .before .before .find .ensures) (c .before .before .before .before .before .before .before .enum-told .given .1))) (chosen-told (c .before .before .before .before .choose .ensures) (c .before .before .enum-told2 .given .1)) (c .before .one-more .ensures)
+add-generation : tie.Need-add-generation Inv-loop μ-loop
+add-generation c = let e = ap (λ (s : State). s .«next_load_generation») (c .before .before .before .before .before .before .before .before .loop .inv .same) in let l = (c .if8 .left) in omega (arith, c .before .before .before .before .before .before .before .before .before .before .before .before .before .before .before .before .good, e, l)
 
-returns-9 : tie.Need-returns-9
-returns-9 c = access-hits _ _ _ _ (yes (c .before .before .before .before .before .before .before .before .before .before .before .before .before .before .before .before .sound .ensures) (c .before .before .before .before .before .before .before .before .before .before .before .before .before .before .before .if1 .left)) (c .before .before .before .before .before .before .before .before .before .before .before .before .before .before .if2 .left) (seek-hits _ _ (found-told (c .before .before .before .before .before .before .before .before .before .before .before .before .before .find .ensures) (c .before .before .before .before .before .before .before .before .before .before .before .found2 .given .1)) (c .before .before .before .before .before .before .before .if3 .left) (heap-told _ (touchNext _ _ _ _) (c .before .before .before .before .before .touch-next .ensures) (c .before .before .before .enum-told3 .given .1))) (c .before .one-more3 .ensures)
+returns-12 : tie.Need-returns-12 Inv-loop μ-loop
+returns-12 c = came _ _ _ (c .before .before .before .before .before .before .before .before .before .loop .inv .same) (no-use _ _ _ (c .before .if8 .left) (c .if9 .taken) ∙ access-reserves _ _ _ _ (c .before .before .before .before .before .before .before .before .before .loop .inv .whole) (c .before .before .before .before .before .before .before .before .before .loop .inv .pinned) (seek-absent _ _ (walk-ends _ _ _ _ (c .before .before .before .before .before .before .before .before .before .loop .inv .rest) (c .before .before .before .before .before .before .before .before .loop-test .left))) (chosen-told (c .before .before .before .before .before .choose .ensures) (c .before .before .before .chosen2 .given .1)))
+
+add-sequence-2 : tie.Need-add-sequence-2 Inv-loop μ-loop
+add-sequence-2 c = let e = ap (λ (s : State). s .«next_access_sequence») (c .before .before .before .before .before .before .before .before .before .loop .inv .same) in let l = (c .if9 .left) in omega (arith, c .before .before .before .before .before .before .before .before .before .before .before .before .before .before .before .before .before .good, e, l)
+
+returns-13 : tie.Need-returns-13 Inv-loop μ-loop
+returns-13 c = came _ _ _ (c .before .before .before .before .before .before .before .before .before .before .loop .inv .same) (access-unreserved _ _ _ _ (c .before .before .before .before .before .before .before .before .before .before .loop .inv .whole) (c .before .before .before .before .before .before .before .before .before .before .loop .inv .pinned) (seek-absent _ _ (walk-ends _ _ _ _ (c .before .before .before .before .before .before .before .before .before .before .loop .inv .rest) (c .before .before .before .before .before .before .before .before .before .loop-test .left))) (chosen-told (c .before .before .before .before .before .before .choose .ensures) (c .before .before .before .before .chosen2 .given .1)) (no-slot _ _ _ (c .before .before .if8 .left) (c .before .if9 .left) (c .if10 .taken)))
+
+mul-previous : tie.Need-mul-previous Inv-loop μ-loop
+mul-previous c = let f = sound-sizes (c .before .before .before .before .before .before .before .before .before .before .loop .inv .whole) .small in let l = (c .if10 .left) in omega (arith, f, l)
+
+element-copy-out-previous : tie.Need-element-copy-out-previous Inv-loop μ-loop
+element-copy-out-previous c = let f = sound-sizes (c .before .before .before .before .before .before .before .before .before .before .loop .inv .whole) .small in let l = (c .if10 .left) in omega (arith, f, l)
+
+free-requires : tie.Need-free-requires Inv-loop μ-loop
+free-requires c κs = search needs
+
+enum-known-answer-2 : tie.Need-enum-known-answer-2 Inv-loop μ-loop
+enum-known-answer-2 c = search needs
+
+returns-14 : tie.Need-returns-14 Inv-loop μ-loop
+returns-14 c = came _ _ _ (c .before .before .before .before .before .before .before .before .before .before .before .before .before .before .before .loop .inv .same) (access-unreserved _ _ _ _ (c .before .before .before .before .before .before .before .before .before .before .before .before .before .before .before .loop .inv .whole) (c .before .before .before .before .before .before .before .before .before .before .before .before .before .before .before .loop .inv .pinned) (seek-absent _ _ (walk-ends _ _ _ _ (c .before .before .before .before .before .before .before .before .before .before .before .before .before .before .before .loop .inv .rest) (c .before .before .before .before .before .before .before .before .before .before .before .before .before .before .loop-test .left))) (chosen-told (c .before .before .before .before .before .before .before .before .before .before .before .choose .ensures) (c .before .before .before .before .before .before .before .before .before .chosen2 .given .1)) (not-freed _ _ _ (c .before .before .before .before .before .before .before .if8 .left) (c .before .before .before .before .before .before .if9 .left) (c .before .before .before .before .before .if10 .left) (freed-told _ (c .before .before .before .free .ensures) (c .before .answer2 .given .1))))
+
+enum-told-3 : tie.Need-enum-told-3 Inv-loop μ-loop
+enum-told-3 c = search needs
+
+insert-requires : tie.Need-insert-requires Inv-loop μ-loop
+insert-requires c κs = search needs
+
+enum-known-put : tie.Need-enum-known-put Inv-loop μ-loop
+enum-known-put c = search needs
+
+returns-15 : tie.Need-returns-15 Inv-loop μ-loop
+returns-15 c = came _ _ _ (c .before .before .before .before .before .before .before .before .before .before .before .before .before .before .before .before .before .before .before .loop .inv .same) (access-unreserved _ _ _ _ (c .before .before .before .before .before .before .before .before .before .before .before .before .before .before .before .before .before .before .before .loop .inv .whole) (c .before .before .before .before .before .before .before .before .before .before .before .before .before .before .before .before .before .before .before .loop .inv .pinned) (seek-absent _ _ (walk-ends _ _ _ _ (c .before .before .before .before .before .before .before .before .before .before .before .before .before .before .before .before .before .before .before .loop .inv .rest) (c .before .before .before .before .before .before .before .before .before .before .before .before .before .before .before .before .before .before .loop-test .left))) (chosen-told (c .before .before .before .before .before .before .before .before .before .before .before .before .before .before .before .choose .ensures) (c .before .before .before .before .before .before .before .before .before .before .before .before .before .chosen2 .given .1)) (not-linked _ _ _ (c .before .before .before .before .before .before .before .before .before .before .before .if8 .left) (c .before .before .before .before .before .before .before .before .before .before .if9 .left) (c .before .before .before .before .before .before .before .before .before .if10 .left) (freed-told _ (c .before .before .before .before .before .before .before .free .ensures) (c .before .before .before .before .before .enum-told3 .given .1)) (index-told _ (insertIndex _ _ _ _) (c .before .before .before .insert .ensures) (c .before .put .given .1))))
+
+enum-told-4 : tie.Need-enum-told-4 Inv-loop μ-loop
+enum-told-4 c = search needs
+
+returns-16 : tie.Need-returns-16 Inv-loop μ-loop
+returns-16 c = came _ _ _ (c .before .before .before .before .before .before .before .before .before .before .before .before .before .before .before .before .before .before .before .loop .inv .same) (access-unreserved _ _ _ _ (c .before .before .before .before .before .before .before .before .before .before .before .before .before .before .before .before .before .before .before .loop .inv .whole) (c .before .before .before .before .before .before .before .before .before .before .before .before .before .before .before .before .before .before .before .loop .inv .pinned) (seek-absent _ _ (walk-ends _ _ _ _ (c .before .before .before .before .before .before .before .before .before .before .before .before .before .before .before .before .before .before .before .loop .inv .rest) (c .before .before .before .before .before .before .before .before .before .before .before .before .before .before .before .before .before .before .loop-test .left))) (chosen-told (c .before .before .before .before .before .before .before .before .before .before .before .before .before .before .before .choose .ensures) (c .before .before .before .before .before .before .before .before .before .before .before .before .before .chosen2 .given .1)) (not-counted _ _ _ (c .before .before .before .before .before .before .before .before .before .before .before .if8 .left) (c .before .before .before .before .before .before .before .before .before .before .if9 .left) (c .before .before .before .before .before .before .before .before .before .if10 .left) (freed-told _ (c .before .before .before .before .before .before .before .free .ensures) (c .before .before .before .before .before .enum-told3 .given .1)) (index-told _ (insertIndex _ _ _ _) (c .before .before .before .insert .ensures) (c .before .enum-told4 .given .1)) (c .if11 .taken)))
+
+add-t : tie.Need-add-t Inv-loop μ-loop
+add-t c = let e = ap (λ (s : State). s .loading) (c .before .before .before .before .before .before .before .before .before .before .before .before .before .before .before .before .before .before .before .before .before .before .loop .inv .same) in let l = (c .before .before .before .if11 .left) in omega (arith, c .before .before .before .before .before .before .before .before .before .before .before .before .before .before .before .before .before .before .before .before .before .before .before .before .before .before .before .before .before .before .good, e, l)
+
+mul-t95 : tie.Need-mul-t95 Inv-loop μ-loop
+mul-t95 c = let f = sound-sizes (c .before .before .before .before .before .before .before .before .before .before .before .before .before .before .before .before .before .before .before .before .before .before .loop .inv .whole) .small in let l = (c .before .before .before .before .before .before .before .before .before .before .before .before .if10 .left) in omega (arith, f, l)
+
+element-set-from-t-2 : tie.Need-element-set-from-t-2 Inv-loop μ-loop
+element-set-from-t-2 c = let f = sound-sizes (c .before .before .before .before .before .before .before .before .before .before .before .before .before .before .before .before .before .before .before .before .before .before .loop .inv .whole) .small in let l = (c .before .before .before .before .before .before .before .before .before .before .before .before .if10 .left) in omega (arith, f, l)
+
+count-load-requires : tie.Need-count-load-requires Inv-loop μ-loop
+count-load-requires c κs = search needs
+
+cast-t105 : tie.Need-cast-t105 Inv-loop μ-loop
+cast-t105 c = let f = sound-sizes (c .before .before .before .before .before .before .before .before .before .before .before .before .before .before .before .before .before .before .before .before .before .before .before .loop .inv .whole) .small in let l = (c .before .before .before .before .before .before .before .before .before .before .before .before .before .if10 .left) in omega (arith, f, l)
+
+returns-17 : tie.Need-returns-17 Inv-loop μ-loop
+unfolding loadInto
+returns-17 c = came _ _ _ (c .before .before .before .before .before .before .before .before .before .before .before .before .before .before .before .before .before .before .before .before .before .before .before .loop .inv .same) (reserves _ _ _ (c .before .before .before .before .before .before .before .before .before .before .before .before .before .before .before .if8 .left) (c .before .before .before .before .before .before .before .before .before .before .before .before .before .before .if9 .left) (c .before .before .before .before .before .before .before .before .before .before .before .before .before .if10 .left) (freed-told _ (c .before .before .before .before .before .before .before .before .before .before .before .free .ensures) (c .before .before .before .before .before .before .before .before .before .enum-told3 .given .1)) (index-told _ (insertIndex _ _ _ _) (c .before .before .before .before .before .before .before .insert .ensures) (c .before .before .before .before .before .enum-told4 .given .1)) (c .count-load .ensures) (c .before .before .before .before .if11 .left) ∙ access-reserves _ _ _ _ (c .before .before .before .before .before .before .before .before .before .before .before .before .before .before .before .before .before .before .before .before .before .before .before .loop .inv .whole) (c .before .before .before .before .before .before .before .before .before .before .before .before .before .before .before .before .before .before .before .before .before .before .before .loop .inv .pinned) (seek-absent _ _ (walk-ends _ _ _ _ (c .before .before .before .before .before .before .before .before .before .before .before .before .before .before .before .before .before .before .before .before .before .before .before .loop .inv .rest) (c .before .before .before .before .before .before .before .before .before .before .before .before .before .before .before .before .before .before .before .before .before .before .loop-test .left))) (chosen-told (c .before .before .before .before .before .before .before .before .before .before .before .before .before .before .before .before .before .before .before .choose .ensures) (c .before .before .before .before .before .before .before .before .before .before .before .before .before .before .before .before .before .chosen2 .given .1)))
 
 pub access-spec : {M : Type 1} → statement M
 access-spec =
     tie.close
     (tie.spec
+    Inv-loop
+    μ-loop
     sound-requires
-    refused-requires
     returns
-    refused-requires-2
     returns-2
-    find-requires
-    enum-known-found
-    refused-requires-3
-    enum-told
-    choose-requires
-    enum-known-chosen
-    refused-requires-4
-    enum-known-chosen-2
-    reserve-requires
-    enum-told-2
-    one-more-requires
-    enum-known-found-2
+    head-requires
+    loop-holds
+    returns-3
+    returns-4
     mul-entry
     element-copy-out-entry
-    one-more-requires-2
-    returns-3
+    holds-key-requires
+    returns-5
+    same-requires
+    one-more-requires
+    returns-6
     touch-next-requires
     enum-known-answer
-    refused-requires-5
-    returns-4
-    enum-told-3
-    add-sequence
-    mul-t42
-    element-set-from-t
-    one-more-requires-3
-    returns-5
-    returns-6
     returns-7
+    enum-told
+    add-sequence
+    mul-t65
+    element-set-from-t
+    one-more-requires-2
     returns-8
-    returns-9)
+    next-in-chain-requires
+    sub-left
+    loop-less
+    loop-again
+    choose-requires
+    enum-known-chosen
+    returns-9
+    enum-told-2
+    one-more-requires-3
+    returns-10
+    enum-known-chosen-2
+    returns-11
+    add-generation
+    returns-12
+    add-sequence-2
+    returns-13
+    mul-previous
+    element-copy-out-previous
+    free-requires
+    enum-known-answer-2
+    returns-14
+    enum-told-3
+    insert-requires
+    enum-known-put
+    returns-15
+    enum-told-4
+    returns-16
+    add-t
+    mul-t95
+    element-set-from-t-2
+    count-load-requires
+    cast-t105
+    returns-17)
