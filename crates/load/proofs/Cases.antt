@@ -1,6 +1,6 @@
 -- The ends of the rules of victim, access, publish and abort, each as an equation on plain variables, and what the code's answers tell of a
 -- rule. Assumes nothing.
-use Prim.Native.Nat.{ℕ, zero, suc, min, _+_, _-_, _≤_, _<_}
+use Prim.Native.Nat.{ℕ, min, _+_, _-_, _≤_, _<_}
 use mathlib.Core.Path.{_≡_, refl, sym, _∙_, ap}
 use mathlib.Core.Bool.{Bool, true, false}
 use mathlib.Core.List.{List}
@@ -10,16 +10,15 @@ use lib.ListN.{length}
 use borrow.Author.Tests.{lt-ltb, le-ltb, le-leb, lt-leb, eq-eqb, ne-eqb}
 use Rattle.basics.specs.Try.{Try, ok, refuse, _>>=_, if_then_else_}
 use Rattle.basics.specs.Refusals.{STOP, PINS, STALE, EXHAUSTED, UNGIVEN}
-use Rattle.basics.specs.Numbers.{NONE, MAX, more}
+use Rattle.basics.specs.Numbers.{MAX, more}
 use Rattle.basics.specs.Answers.{done}
 use Rattle.basics.specs.declared.Done.{Done}
 use Rattle.basics.proofs.Tests.{no-ltb, some-ltb}
 use Rattle.key.specs.declared.CacheKey.{CacheKey}
-use Rattle.key.specs.Key.{sameKey}
 use Rattle.index.specs.declared.Index.{Index}
 use Rattle.index.specs.declared.Moved.{Moved}
 use Rattle.index.specs.Answers.{movedOf, tryDone}
-use Rattle.index.specs.Chain.{CHAIN, headOf, nextOf, insertIndex}
+use Rattle.index.specs.Chain.{insertIndex}
 use Rattle.index.specs.Free.{takeVacant}
 use Rattle.index.proofs.Cases.{moved-back}
 use Rattle.eviction.specs.declared.EvictionHeap.{EvictionHeap}
@@ -32,15 +31,15 @@ use Rattle.state.specs.declared.Counters.{Counters}
 use Rattle.state.specs.declared.LoadToken.{LoadToken}
 use Rattle.state.specs.declared.Slot.{Slot}
 use Rattle.state.specs.declared.State.{State}
-use Rattle.state.specs.Slots.{vacantSlot, cleanSlot, slotAt, occupied}
+use Rattle.state.specs.Slots.{vacantSlot, cleanSlot, slotAt}
 use Rattle.state.specs.Parts.{withSlot, withIndex, withHeap, withNumbers, withCounters, withHeld, countsOf, vacate}
 use Rattle.state.specs.Answers.{Given, hit, inProgress, reserved, evicted, busy, accessAnswer, After, told, unlessRefused}
 use Rattle.state.specs.Fresh.{sound}
-use Rattle.state.specs.Find.{findFrom, findKey, Seek, found, waits, absent, seek}
+use Rattle.state.specs.Find.{found, waits, absent, seek}
 use Rattle.state.specs.Victim.{PLACES, victim}
 use Rattle.state.specs.Access.{Freed as FreedParts, takeTop, free, nextToken, countLoad, loadInto, occupy, reserve, capacityBusy, reserveAt, choose, miss, accessSeen, access}
 use Rattle.state.specs.Tokens.{outstanding, publish, abort}
-use Rattle.search.proofs.Cases.{find-step, find-end, hitTable, waitTable}
+use Rattle.search.proofs.Cases.{hitTable, waitTable, Walking}
 use Rattle.load.specs.declared.Freed.{Freed}
 use Rattle.load.specs.Answers.{tryFreed, freedAnswer}
 
@@ -117,49 +116,10 @@ module _ (t : State) (key : CacheKey) (slot : ℕ) where
             unfolding reserve occupy loadInto
             reserves k e = rw (k, given-is (nextToken t key slot) (f .left), ne-eqb _ _ g, ne-eqb _ _ n, lt-ltb _ _ l, freed, linked, ne-eqb _ _ e)
 
--- ---- the walk along the key's chain
-
--- what access knows at the head of its loop: the table is as it came and passed both tests, and the rest of the walk finds what the whole one does
-pub record Walking (key : CacheKey) (pins : List ℕ) (t₀ t : State) (slot left : ℕ) : Type 0 where
-  pub same : t ≡ t₀
-  pub whole : sound t ≡ true
+-- what access knows at the head of its loop: it walks along the key's chain, with a pin byte for each slot
+pub record PinnedWalk (key : CacheKey) (pins : List ℕ) (t₀ t : State) (slot left : ℕ) : Type 0 where
+  pub walk : Walking key t₀ t slot left
   pub pinned : length pins ≡ t .capacity
-  pub rest : findFrom left t key slot ≡ findKey t key
-
-find-none : (n : ℕ) (t : State) (key : CacheKey) (s : ℕ) → s ≡ NONE → findFrom n t key s ≡ ok none
-unfolding findFrom
-find-none zero t key s e = rw (eq-eqb _ _ e)
-find-none (suc n) t key s e = rw (eq-eqb _ _ e)
-
-pub walk-starts : (t : State) (key : CacheKey) {s : ℕ} → sound t ≡ true → s ≡ headOf (t .index) key → findFrom CHAIN t key s ≡ findKey t key
-unfolding findKey
-walk-starts t key y e = rw (y, e)
-
-module _ (t : State) (key : CacheKey) (s n : ℕ) (w : findFrom n t key s ≡ findKey t key) where
-  pub walk-ends : s ≡ NONE → findKey t key ≡ ok none
-  walk-ends e = sym w ∙ find-none n t key s e
-
-  module _ (a : s ≡ NONE → ⊥) where
-    pub walk-long : n ≡ 0 → findKey t key ≡ refuse STOP
-    walk-long z = rw (← w, find-end n t key s (omega arith)) (simp (ne-eqb _ _ a))
-
-    module _ (l : n ≡ 0 → ⊥) where
-      next-step : 0 < n
-      next-step = omega arith
-
-      pub walk-astray : t .capacity ≤ s → findKey t key ≡ refuse STOP
-      walk-astray b = rw (← w, find-step n t key s next-step) (simp (ne-eqb _ _ a, le-leb _ _ b))
-
-      module _ (b : s < t .capacity) where
-        pub walk-vacant : occupied (slotAt t s) ≡ false → findKey t key ≡ refuse STOP
-        walk-vacant o = rw (← w, find-step n t key s next-step) (simp (ne-eqb _ _ a, lt-leb _ _ b, o))
-
-        module _ (o : occupied (slotAt t s) ≡ true) where
-          pub walk-meets : sameKey (slotAt t s .key) key ≡ true → findKey t key ≡ ok (some s)
-          walk-meets k = rw (← w, find-step n t key s next-step) (simp (ne-eqb _ _ a, lt-leb _ _ b, o, k))
-
-          pub walk-on : {x : ℕ} → sameKey (slotAt t s .key) key ≡ false → x ≡ nextOf (t .index) s → findFrom (n - 1) t key x ≡ findKey t key
-          walk-on k e = rw (← w, find-step n t key s next-step) (simp (ne-eqb _ _ a, lt-leb _ _ b, o, k, e))
 
 -- ---- access: its ends, by what `seek` gave
 module _ (t : State) (key : CacheKey) (allow : Bool) (pins : List ℕ) where

@@ -1,15 +1,15 @@
--- What the proofs of the searches share and callers cite: the walks one step on, what a search tells, and the ends of `seek`. Assumes nothing.
+-- What the proofs of the searches share and callers cite: the walks one step on, the walk in place, and the ends of `seek`. Assumes nothing.
 use Prim.Native.Nat.{ℕ, zero, suc, _+_, _-_, _≤_, _<_}
-use mathlib.Core.Path.{_≡_, refl}
-use mathlib.Core.Bool.{Bool, true, false, not}
+use mathlib.Core.Path.{_≡_, refl, sym, _∙_, ap}
+use mathlib.Core.Bool.{true, false, not}
 use mathlib.Core.Option.{Option, none, some}
 use native.Mathlib.Omega.{arith}
 use lib.Dec.{leb, eqb}
-use borrow.Author.Tests.{leb-false, eqb-false, eq-eqb, ne-eqb, not-true}
+use borrow.Author.Tests.{eqb-false, le-leb, lt-leb, eq-eqb, ne-eqb, not-true}
 use Rattle.basics.specs.Try.{Try, ok, refuse, _>>=_, _>>_, if_then_else_}
 use Rattle.basics.specs.Refusals.{STOP, EXHAUSTED}
 use Rattle.basics.specs.Numbers.{NONE, MAX}
-use Rattle.basics.proofs.Tests.{yes!, no!, is, one-less, met, went}
+use Rattle.basics.proofs.Tests.{yes!, no!, is, one-less, met}
 use Rattle.key.specs.declared.CacheKey.{CacheKey}
 use Rattle.key.specs.Key.{sameKey}
 use Rattle.index.specs.Chain.{CHAIN, headOf, nextOf}
@@ -17,7 +17,7 @@ use Rattle.eviction.specs.declared.EvictionHeap.{EvictionHeap}
 use Rattle.state.specs.declared.State.{State}
 use Rattle.state.specs.Slots.{slotAt, occupied, cleanWith, cleanSlot}
 use Rattle.state.specs.Parts.{withSlot, withHeap, withNumbers, withCounters, countHit, countProgress}
-use Rattle.state.specs.Answers.{told, unlessRefused}
+use Rattle.state.specs.Answers.{After, told, unlessRefused}
 use Rattle.state.specs.Fresh.{sound}
 use Rattle.state.specs.Find.{findFrom, findKey, Seek, found, waits, absent, touchNext, hitAt, seekAt, seek}
 use Rattle.state.specs.Lookup.{foundSeen, lookup}
@@ -56,47 +56,63 @@ unfolding peekFrom
 peek-end zero t key s l = refl
 peek-end (suc n) t key s l = absurd (omega arith)
 
--- a slot that the search found is below the capacity
-low-rest : (o k : Bool) (c s x : ℕ) (r : Try (Option ℕ)) → s < c → (if not o then refuse STOP else if k then ok (some s) else r) ≡ ok (some x)
-    → (r ≡ ok (some x) → x < c) → x < c
-low-rest false k c s x r l e f = let z : _≡_ {A = ℕ} 0 1 = cc in absurd (omega arith)
-low-rest true true c s x r l e f = let q : s ≡ x = cc in omega arith
-low-rest true false c s x r l e f = f e
+-- ---- the walk that lookup and access make in place
 
-low-step : (b : Bool) (c s : ℕ) (o k : Bool) (x : ℕ) (r : Try (Option ℕ))
-    → (if b then ok none else if leb c s then refuse STOP else if not o then refuse STOP else if k then ok (some s) else r) ≡ ok (some x)
-    → (r ≡ ok (some x) → x < c) → x < c
-low-step true c s o k x r e f = let z : _≡_ {A = ℕ} 0 1 = cc in absurd (omega arith)
-low-step false c s o k x r e f =
-    elim (is (leb c s)) [
-      | yes! l ↦
-          let q : refuse STOP ≡ ok (some x) = rw l at e in
-          let z : _≡_ {A = ℕ} 0 1 = cc in
-          absurd (omega arith)
-      | no! l ↦ low-rest o k c s x r (leb-false c s l) (rw l at e) f
-    ]
+-- without the first test there is no walk
+pub find-unsound : (t : State) (key : CacheKey) → sound t ≡ false → findKey t key ≡ refuse STOP
+unfolding findKey
+find-unsound t key n = rw n
 
-low-end : (b : Bool) (c x : ℕ) → (if b then ok none else refuse STOP) ≡ ok (some x) → x < c
-low-end true c x e = let z : _≡_ {A = ℕ} 0 1 = cc in absurd (omega arith)
-low-end false c x e = let z : _≡_ {A = ℕ} 0 1 = cc in absurd (omega arith)
+-- what is known at the head of its loop: the table is as it came and passed the first test, and the rest of the walk finds what the whole one does
+pub record Walking (key : CacheKey) (t₀ t : State) (slot left : ℕ) : Type 0 where
+  pub same : t ≡ t₀
+  pub whole : sound t ≡ true
+  pub rest : findFrom left t key slot ≡ findKey t key
 
-pub find-from-low : (n : ℕ) (t : State) (key : CacheKey) (s x : ℕ) → findFrom n t key s ≡ ok (some x) → x < t .capacity
+find-none : (n : ℕ) (t : State) (key : CacheKey) (s : ℕ) → s ≡ NONE → findFrom n t key s ≡ ok none
 unfolding findFrom
-find-from-low zero t key s x e = low-end (eqb s NONE) (t .capacity) x e
-find-from-low (suc n) t key s x e =
-    low-step (eqb s NONE) (t .capacity) s (occupied (slotAt t s)) (sameKey (slotAt t s .key) key) x _ e (λ q. find-from-low n t key _ x q)
+find-none zero t key s e = rw (eq-eqb _ _ e)
+find-none (suc n) t key s e = rw (eq-eqb _ _ e)
 
--- what it means that the search answered: the first test passed, and a slot found is below the capacity
-pub find-sound : {o : Option ℕ} (t : State) (key : CacheKey) → findKey t key ≡ ok o → sound t ≡ true
+find-starts : (t : State) (key : CacheKey) (s : ℕ) → sound t ≡ true → s ≡ headOf (t .index) key → findFrom CHAIN t key s ≡ findKey t key
 unfolding findKey
-find-sound {o} t key e = met (sound t) STOP _ o e .0
+find-starts t key s y e = rw (y, e)
 
-pub find-low : {x : ℕ} (t : State) (key : CacheKey) → findKey t key ≡ ok (some x) → x < t .capacity
-unfolding findKey
-find-low {x} t key e = find-from-low CHAIN t key (headOf (t .index) key) x (met (sound t) STOP _ (some x) e .1)
+pub walk-starts : {key : CacheKey} {t : State} {s : ℕ} → sound t ≡ true → s ≡ headOf (t .index) key → Walking key t t s CHAIN
+walk-starts {key} {t} {s} y e = record { same = refl; whole = y; rest = find-starts t key s y e }
 
-pub find-in : {x : ℕ} (t : State) (key : CacheKey) → findKey t key ≡ ok (some x) → x < 256
-find-in t key e = omega (arith, find-low t key e, sound-sizes (find-sound t key e) .small)
+module _ {key : CacheKey} {t₀ t : State} {s n : ℕ} (w : Walking key t₀ t s n) where
+  -- a slot of the walk that is below the capacity is one of the array's
+  pub walk-in : s < t .capacity → s < 256
+  walk-in l = let f = sound-sizes (w .whole) .small in omega (arith, f, l)
+
+  pub walk-ends : s ≡ NONE → findKey t key ≡ ok none
+  walk-ends e = sym (w .rest) ∙ find-none n t key s e
+
+  module _ (a : s ≡ NONE → ⊥) where
+    pub walk-long : n ≡ 0 → findKey t key ≡ refuse STOP
+    walk-long z = rw (← w .rest, find-end n t key s (omega arith)) (simp (ne-eqb _ _ a))
+
+    module _ (l : n ≡ 0 → ⊥) where
+      next-step : 0 < n
+      next-step = omega arith
+
+      pub walk-astray : t .capacity ≤ s → findKey t key ≡ refuse STOP
+      walk-astray b = rw (← w .rest, find-step n t key s next-step) (simp (ne-eqb _ _ a, le-leb _ _ b))
+
+      module _ (b : s < t .capacity) where
+        pub walk-vacant : occupied (slotAt t s) ≡ false → findKey t key ≡ refuse STOP
+        walk-vacant o = rw (← w .rest, find-step n t key s next-step) (simp (ne-eqb _ _ a, lt-leb _ _ b, o))
+
+        module _ (o : occupied (slotAt t s) ≡ true) where
+          pub walk-meets : sameKey (slotAt t s .key) key ≡ true → findKey t key ≡ ok (some s)
+          walk-meets k = rw (← w .rest, find-step n t key s next-step) (simp (ne-eqb _ _ a, lt-leb _ _ b, o, k))
+
+          find-on : {x : ℕ} → sameKey (slotAt t s .key) key ≡ false → x ≡ nextOf (t .index) s → findFrom (n - 1) t key x ≡ findKey t key
+          find-on k e = rw (← w .rest, find-step n t key s next-step) (simp (ne-eqb _ _ a, lt-leb _ _ b, o, k, e))
+
+          pub walk-on : {x : ℕ} → sameKey (slotAt t s .key) key ≡ false → x ≡ nextOf (t .index) s → Walking key t₀ t x (n - 1)
+          walk-on k e = record { same = w .same; whole = w .whole; rest = find-on k e }
 
 -- ---- `seek`, which lookup and access share: its ends
 
@@ -146,6 +162,10 @@ lookup-sought t key {x} e =
       | yes! y ↦ rw (← e, y)
       | no! y ↦ rw (← e, y)
     ]
+
+-- the table at the loop's head is the one that came
+pub looked : {a : After (Option ℕ)} {t t₀ : State} (key : CacheKey) → t ≡ t₀ → a ≡ lookup t key → a ≡ lookup t₀ key
+looked key e q = q ∙ ap (λ (s : State). lookup s key) e
 
 -- a touch that went on had a next use number
 pub touched-next : (c : ℕ) (h : EvictionHeap) (slot last : ℕ) {k : EvictionHeap} → touchNext c h slot last ≡ ok k → last ≡ MAX → ⊥

@@ -1,7 +1,7 @@
 // SPDX-FileCopyrightText: 2026 roolrz
 // SPDX-License-Identifier: Apache-2.0
 
-// state/mod.rs, the calls that search a key's chain: find (for lookup; access, in crate load, makes the same walk itself), lookup and
+// state/mod.rs, the calls that search a key's chain: find (lookup, and access in crate load, make the same walk themselves), lookup and
 // peek_clean. Every call works on any table; a refusal hands the table back as it came.
 ghost use mathlib.Core.Path.{_≡_};
 ghost use Rattle.eviction.specs.Answers.{movedOf as heapMovedOf};
@@ -91,25 +91,45 @@ pub fn find(t: State, key: CacheKey) -> Found
     }
 }
 
+// The walk along the chain stands here, because `find` takes the table by value, which copies it.
 pub fn lookup(mut t: State, key: CacheKey) -> Looked
     ensures { λ r. ⌜ lookedAfter r ≡ lookupRule t key ⌝ }
 {
-    let found = find(t, key);
-    match found {
-        Found::Refused(why) => {
+    if !state::sound(
+        t.capacity,
+        t.index.buckets,
+        t.index.free_len,
+        t.eviction.len,
+    ) {
+        return Looked {
+            state: t,
+            answer: Found::Refused(basics::STOP),
+        };
+    }
+    let mut here = index::head(&t.index.heads, t.index.buckets, key);
+    let mut steps: usize = index::MAX_CHAIN;
+    while here != basics::NO_SLOT {
+        if steps == 0 {
             return Looked {
                 state: t,
-                answer: Found::Refused(why),
+                answer: Found::Refused(basics::STOP),
             };
         }
-        Found::Nothing => {
+        if t.capacity <= here {
             return Looked {
                 state: t,
-                answer: Found::Nothing,
+                answer: Found::Refused(basics::STOP),
             };
         }
-        Found::At(slot) => {
-            let entry = t.slots[slot];
+        let entry = t.slots[here];
+        if !holds_key(entry) {
+            return Looked {
+                state: t,
+                answer: Found::Refused(basics::STOP),
+            };
+        }
+        let resident = entry.key;
+        if resident.same(key) {
             if entry.kind != state::CLEAN {
                 t.counters.in_progress = basics::one_more(t.counters.in_progress);
                 return Looked {
@@ -119,7 +139,7 @@ pub fn lookup(mut t: State, key: CacheKey) -> Looked
             }
             let last = t.next_access_sequence;
             let heap = t.eviction;
-            let touched = touch_next(t.capacity, heap, slot, last);
+            let touched = touch_next(t.capacity, heap, here, last);
             let answer = touched.answer;
             if let Done::Refused(why) = answer {
                 return Looked {
@@ -130,18 +150,24 @@ pub fn lookup(mut t: State, key: CacheKey) -> Looked
             let moved = touched.heap;
             t.eviction = moved;
             t.next_access_sequence = last + 1;
-            t.slots[slot] = Slot {
+            t.slots[here] = Slot {
                 kind: state::CLEAN,
                 key: key,
                 generation: 0,
                 last_access: last + 1,
             };
             t.counters.hits = basics::one_more(t.counters.hits);
-            Looked {
+            return Looked {
                 state: t,
-                answer: Found::At(slot),
-            }
+                answer: Found::At(here),
+            };
         }
+        here = index::next_in_chain(&t.index.next, here);
+        steps -= 1;
+    }
+    Looked {
+        state: t,
+        answer: Found::Nothing,
     }
 }
 

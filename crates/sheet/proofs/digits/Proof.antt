@@ -1,0 +1,95 @@
+-- `sheet::digits` meets its contract. The invariant: the digits still to be put in front of what stands are those of the whole number. Assumes nothing.
+use Prim.Native.Nat.{_+_, _%_, _≤_}
+use mathlib.Core.Path.{_≡_, refl, sym, _∙_}
+use native.Mathlib.Omega.{arith}
+use lib.ListN.{length, drop, length-set}
+use borrow.Author.Needs.{needs}
+use Rattle.sheet.specs.Text.{digit, digitsFrom}
+use Rattle.sheet.proofs.Bytes.{front-at, last-digit, more-digits, no-digits, decimal-front}
+use Rattle.sheet.proofs.digits.Statement.{statement}
+use Rattle.sheet.proofs.digits.Tie as tie
+use Rattle.sheet.proofs.digits.Reads as reads
+use Rattle.sheet.proofs.digits.Lts as lts
+
+abbrev Inv-loop : tie.InvT-loop
+Inv-loop number bytes₀ from₀ n₀ left₀ bytes from n left = (from₀ + left ≡ from + 20) × (left ≤ 20) × (length bytes ≡ 96) × (digitsFrom left n (drop from bytes) ≡ digitsFrom 20 number (drop from₀ bytes₀))
+
+abbrev μ-loop : tie.MeasureT-loop
+μ-loop number bytes₀ from₀ n₀ left₀ bytes from n left = left
+
+-- src/lib.rt:174:5
+loop-holds : tie.Need-loop-holds Inv-loop μ-loop
+loop-holds c = (omega arith, omega arith, search needs, refl)
+
+-- src/lib.rt:175:9
+sub-from : tie.Need-sub-from Inv-loop μ-loop
+sub-from c = search needs
+
+-- src/lib.rt:177:32
+cast-bytes : tie.Need-cast-bytes Inv-loop μ-loop
+cast-bytes c = search needs
+
+-- src/lib.rt:177:27
+add-bytes : tie.Need-add-bytes Inv-loop μ-loop
+add-bytes c = search needs
+
+-- src/lib.rt:177:13
+array-write-bytes : tie.Need-array-write-bytes Inv-loop μ-loop
+array-write-bytes c = search needs
+
+-- src/lib.rt:178:13
+returns : tie.Need-returns Inv-loop μ-loop
+returns c =
+    let e = front-at (c .before .before .loop .bytes) (c .before .before .loop .from) (digit (c .before .before .loop .n)) (omega arith) (omega arith) in
+    (e ∙ sym (last-digit (c .before .before .loop .left) (c .before .before .loop .n) (drop (c .before .before .loop .from) (c .before .before .loop .bytes)) (c .before .loop-test .taken) (c .if1 .taken)) ∙ c .before .before .loop .inv .3 ∙ decimal-front (c .before .before .before .before .args .number) (drop (c .before .before .before .before .args .line .from) (c .before .before .before .before .args .line .bytes)), (omega arith, omega arith))
+
+-- src/lib.rt:183:28
+cast-bytes-2 : tie.Need-cast-bytes-2 Inv-loop μ-loop
+cast-bytes-2 c = search needs
+
+-- src/lib.rt:183:23
+add-bytes-2 : tie.Need-add-bytes-2 Inv-loop μ-loop
+add-bytes-2 c = search needs
+
+-- src/lib.rt:183:9
+array-write-bytes-2 : tie.Need-array-write-bytes-2 Inv-loop μ-loop
+array-write-bytes-2 c = search needs
+
+-- src/lib.rt:185:9
+sub-left : tie.Need-sub-left Inv-loop μ-loop
+sub-left c = search needs
+
+-- src/lib.rt:174:5
+loop-less : tie.Need-loop-less Inv-loop μ-loop
+loop-less c = search needs
+
+-- src/lib.rt:174:5
+loop-again : tie.Need-loop-again Inv-loop μ-loop
+loop-again c =
+    let e = front-at (c .before .before .loop .bytes) (c .before .before .loop .from) (digit (c .before .before .loop .n % 10)) (omega arith) (omega arith) in
+    (omega arith, omega arith, simp length-set (c .before .before .loop .inv .2), rw e (sym (more-digits (c .before .before .loop .left) (c .before .before .loop .n) (drop (c .before .before .loop .from) (c .before .before .loop .bytes)) (c .before .loop-test .taken) (c .if1 .left)) ∙ c .before .before .loop .inv .3))
+
+-- src/lib.rt:165:1
+returns-2 : tie.Need-returns-2 Inv-loop μ-loop
+returns-2 c =
+    (sym (no-digits (c .before .loop .left) (c .before .loop .n) (drop (c .before .loop .from) (c .before .loop .bytes)) (c .loop-test .left)) ∙ c .before .loop .inv .3 ∙ decimal-front (c .before .before .before .args .number) (drop (c .before .before .before .args .line .from) (c .before .before .before .args .line .bytes)), (omega arith, omega arith))
+
+pub digits-spec : {M : Type 1} → statement M
+digits-spec =
+    tie.close
+    (tie.spec
+    Inv-loop
+    μ-loop
+    loop-holds
+    sub-from
+    cast-bytes
+    add-bytes
+    array-write-bytes
+    returns
+    cast-bytes-2
+    add-bytes-2
+    array-write-bytes-2
+    sub-left
+    loop-less
+    loop-again
+    returns-2)

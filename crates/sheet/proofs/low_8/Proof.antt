@@ -1,0 +1,37 @@
+-- `sheet::low_8` meets its contract. Assumes nothing.
+use native.Mathlib.Omega.{arith}
+use Rattle.sheet.proofs.Bytes.{low-8}
+use borrow.Author.Needs.{needs}
+use Rattle.sheet.proofs.low_8.Statement.{statement}
+use Rattle.sheet.proofs.low_8.Tie as tie
+use Rattle.sheet.proofs.low_8.Reads as reads
+use Rattle.sheet.proofs.low_8.Lts as lts
+use Rattle.sheet.proofs.low_4.Reads as low-4-reads
+
+-- src/lib.rt:106:9
+low-4-requires : tie.Need-low-4-requires
+low-4-requires c κs = search needs
+
+-- src/lib.rt:107:30
+add-low-4 : tie.Need-add-low-4
+add-low-4 c = search needs
+
+-- src/lib.rt:107:9
+low-4-requires-2 : tie.Need-low-4-requires-2
+low-4-requires-2 c κs = search needs
+
+-- src/lib.rt:108:13
+mul-result : tie.Need-mul-result
+mul-result c = search needs
+
+-- src/lib.rt:108:5
+add-result : tie.Need-add-result
+add-result c = search needs
+
+-- src/lib.rt:102:1
+returns : tie.Need-returns
+returns c = rw low-8 (omega arith)
+
+pub low-8-spec : {M : Type 1} → statement M
+low-8-spec =
+    tie.close (tie.spec low-4-requires add-low-4 low-4-requires-2 mul-result add-result returns)

@@ -1,0 +1,56 @@
+-- `sheet::pin_step` meets its contract. Assumes nothing.
+use Rattle.sheet.specs.Steps.{stepPin, sayPinned}
+use borrow.Author.Needs.{needs}
+use Rattle.sheet.proofs.pin_step.Statement.{statement}
+use Rattle.sheet.proofs.pin_step.Tie as tie
+use Rattle.sheet.proofs.pin_step.Reads as reads
+use Rattle.sheet.proofs.pin_step.Lts as lts
+use Rattle.sheet.proofs.check_clean.Reads as check-clean-reads
+use Rattle.sheet.proofs.done_with_pin.Reads as done-with-pin-reads
+
+-- src/lib.rt:590:9
+check-clean-requires : tie.Need-check-clean-requires
+check-clean-requires c κs = search needs
+
+-- src/lib.rt:591:26
+enum-known-clean : tie.Need-enum-known-clean
+enum-known-clean c = search needs
+
+-- src/lib.rt:592:9
+returns : tie.Need-returns
+unfolding stepPin sayPinned
+returns c = rw (← c .before .before .before .check-clean .ensures, c .before .clean .given .1)
+
+enum-told : tie.Need-enum-told
+enum-told c = search needs
+
+-- src/lib.rt:598:9
+done-with-pin-requires : tie.Need-done-with-pin-requires
+done-with-pin-requires c κs = search needs
+
+-- src/lib.rt:598:9
+returns-2 : tie.Need-returns-2
+unfolding stepPin sayPinned
+returns-2 c = rw (c .done-with-pin .ensures, ← c .before .before .before .before .check-clean .ensures, c .before .before .enum-told .given .1, c .before .if1 .taken)
+
+-- src/lib.rt:600:5
+done-with-pin-requires-2 : tie.Need-done-with-pin-requires-2
+done-with-pin-requires-2 c κs = search needs
+
+-- src/lib.rt:586:1
+returns-3 : tie.Need-returns-3
+unfolding stepPin sayPinned
+returns-3 c = rw (c .done-with-pin2 .ensures, ← c .before .before .before .before .check-clean .ensures, c .before .before .enum-told .given .1, c .before .if1 .left)
+
+pub pin-step-spec : {M : Type 1} → statement M
+pin-step-spec =
+    tie.close
+    (tie.spec
+    check-clean-requires
+    enum-known-clean
+    returns
+    enum-told
+    done-with-pin-requires
+    returns-2
+    done-with-pin-requires-2
+    returns-3)
