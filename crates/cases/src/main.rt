@@ -80,8 +80,8 @@ fn k3_and_k4() {
     number(slot_of(c));
     number(slot_of(d));
     say(b"\nK4");
-    let e = load::abort(d.state, token_of(b));
-    let f = load::abort(e.state, token_of(d));
+    let e = tokens::abort(d.state, token_of(b));
+    let f = tokens::abort(e.state, token_of(d));
     let g = load::access(f.state, key(5), true, &pins);
     let h = load::access(g.state, key(6), true, &pins);
     number(slot_of(g));
@@ -95,8 +95,8 @@ fn k5() {
     let made = State::try_new(2);
     let a = load::access(made.state, key(1), true, &pins);
     let b = load::access(a.state, key(2), true, &pins);
-    let c = load::publish(b.state, token_of(b));
-    let d = load::publish(c.state, token_of(a));
+    let c = tokens::publish(b.state, token_of(b));
+    let d = tokens::publish(c.state, token_of(a));
     say(b"K5");
     number(found(d.state.oldest_clean()));
     say(b"\n");
@@ -106,7 +106,7 @@ fn k5() {
 fn loaded(t: State, file: u64) -> State {
     let pins = [0u8; 5];
     let a = load::access(t, key(file), true, &pins);
-    let b = load::publish(a.state, token_of(a));
+    let b = tokens::publish(a.state, token_of(a));
     b.state
 }
 
@@ -191,7 +191,7 @@ fn k11() {
     let pins = [0u8; 1];
     let made = State::try_new(1);
     let a = load::access(made.state, key(1), true, &pins);
-    let b = search::lookup(a.state, key(1));
+    let b = lookup::lookup(a.state, key(1));
     let answer = b.answer;
     say(b"K11");
     match answer {

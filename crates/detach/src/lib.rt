@@ -20,7 +20,7 @@ use state::State;
 pub fn vacate(capacity: usize, index: Index, key: CacheKey, slot: usize) -> index::Moved
     ensures { λ r. ⌜ r ≡ indexMovedOf index (vacateIndex capacity index key slot) ⌝ }
 {
-    let cut = index.remove(capacity, key, slot);
+    let cut = chains::remove(index, capacity, key, slot);
     let answer = cut.answer;
     if let Done::Refused(why) = answer {
         return index::Moved {
@@ -69,7 +69,7 @@ fn detach_counted(mut t: State, slot: usize, counters: Counters) -> Finished
         return refused(t, basics::UNCLEAN);
     }
     let heap = t.eviction;
-    let removed = heap.remove(t.capacity, slot);
+    let removed = sift::remove(heap, t.capacity, slot);
     let out = removed.answer;
     if let Done::Refused(why) = out {
         return refused(t, why);

@@ -1,8 +1,8 @@
 // SPDX-FileCopyrightText: 2026 roolrz
 // SPDX-License-Identifier: Apache-2.0
 
-// index.rs: the chains of slots and the stack of vacant slots. Each function works on any value: where the Rust would stop, the
-// answer is the refusal 10 and the index is as it came.
+// index.rs: the chains of slots and the stack of vacant slots: a new index, the stack, and what reads a chain. Each function works on any value:
+// where the Rust would stop, the answer is the refusal 10 and the index is as it came.
 ghost use Prim.Native.Nat.{_-_, _≤_};
 ghost use mathlib.Core.Path.{_≡_};
 ghost use mathlib.Core.List.{_++_};
@@ -10,20 +10,15 @@ ghost use lib.ListN.{getD, replicate};
 ghost use Rattle.basics.specs.Numbers.{NONE};
 ghost use Rattle.basics.specs.Lists.{down};
 ghost use Rattle.key.specs.Bucket.{bucketOf};
-ghost use Rattle.index.specs.declared.Index.{Index};
-ghost use Rattle.index.specs.Answers.{movedOf, roomAnswer, topAnswer};
-ghost use Rattle.index.specs.Chain.{CHAIN, sizes, roomFrom, canInsert, insertIndex, removeIndex};
+ghost use Rattle.index.specs.Answers.{movedOf, topAnswer};
+ghost use Rattle.index.specs.Chain.{sizes};
 ghost use Rattle.index.specs.Free.{topVacant, takeVacant, releaseIndex};
 ghost use Rattle.index.specs.Fresh.{noIndex, newIndex};
 use basics::Done;
-use basics::NO_SLOT;
 use basics::NONE;
 use basics::STOP;
 use key::CacheKey;
 use key::Count;
-
-// The most slots of a chain.
-pub const MAX_CHAIN: usize = 64;
 
 pub struct Index {
     pub heads: [u16; 512],
@@ -175,117 +170,6 @@ impl Index {
             answer: Done::Done,
         }
     }
-
-    // Whether the key's chain takes one more slot.
-    pub fn can_insert(self, capacity: usize, key: CacheKey) -> Room
-        ensures { λ r. ⌜ roomAnswer r ≡ canInsert capacity self key ⌝ }
-    {
-        if !sized(capacity, self.buckets, self.free_len) {
-            return Room::Refused(STOP);
-        }
-        let first = head(&self.heads, self.buckets, key);
-        room_from(&self.next, capacity, first)
-    }
-
-    // Puts a slot that links to nothing at the front of the key's chain.
-    pub fn insert(mut self, capacity: usize, key: CacheKey, slot: usize) -> Moved
-        ensures { λ r. ⌜ r ≡ movedOf self (insertIndex capacity self key slot) ⌝ }
-    {
-        if !sized(capacity, self.buckets, self.free_len) {
-            return Moved {
-                index: self,
-                answer: Done::Refused(STOP),
-            };
-        }
-        if capacity <= slot {
-            return Moved {
-                index: self,
-                answer: Done::Refused(STOP),
-            };
-        }
-        let next = self.next[slot];
-        if next != NONE {
-            return Moved {
-                index: self,
-                answer: Done::Refused(STOP),
-            };
-        }
-        let bucket = key.bucket(self.buckets);
-        let first = self.heads[bucket];
-        let at = basics::wide(first);
-        if at == slot {
-            return Moved {
-                index: self,
-                answer: Done::Refused(STOP),
-            };
-        }
-        let room = room_from(&self.next, capacity, at);
-        match room {
-            Room::No => {
-                return Moved {
-                    index: self,
-                    answer: Done::Refused(STOP),
-                };
-            }
-            Room::Refused(why) => {
-                return Moved {
-                    index: self,
-                    answer: Done::Refused(why),
-                };
-            }
-            Room::Yes => {}
-        }
-        self.next[slot] = first;
-        self.heads[bucket] = slot as u16;
-        Moved {
-            index: self,
-            answer: Done::Done,
-        }
-    }
-
-    // Takes a slot out of the key's chain.
-    pub fn remove(mut self, capacity: usize, key: CacheKey, target: usize) -> Moved
-        ensures { λ r. ⌜ r ≡ movedOf self (removeIndex capacity self key target) ⌝ }
-    {
-        if !sized(capacity, self.buckets, self.free_len) {
-            return Moved {
-                index: self,
-                answer: Done::Refused(STOP),
-            };
-        }
-        let bucket = key.bucket(self.buckets);
-        let mut slot = basics::wide(self.heads[bucket]);
-        let mut previous = NO_SLOT;
-        let mut left = MAX_CHAIN;
-        while 0 < left {
-            if capacity <= slot {
-                return Moved {
-                    index: self,
-                    answer: Done::Refused(STOP),
-                };
-            }
-            let next = self.next[slot];
-            if slot == target {
-                if previous == NO_SLOT {
-                    self.heads[bucket] = next;
-                } else {
-                    self.next[previous] = next;
-                }
-                self.next[slot] = NONE;
-                return Moved {
-                    index: self,
-                    answer: Done::Done,
-                };
-            }
-            previous = slot;
-            slot = basics::wide(next);
-            left -= 1;
-        }
-        Moved {
-            index: self,
-            answer: Done::Refused(STOP),
-        }
-    }
 }
 
 // The first slot of the key's chain. A bucket past the heads, which an index of the right sizes does not have, gives 0. The array is
@@ -312,30 +196,8 @@ pub fn next_in_chain(next: &[u16; 256], slot: usize) -> usize
     basics::wide(all[slot])
 }
 
-// Whether the chain from `slot` on ends before the steps do. Only the links of the index are lent: by value it would be copied.
-fn room_from(next: &[u16; 256], capacity: usize, slot: usize) -> Room
-    ensures { λ r. ⌜ ((ix : Index) → ix .next ≡ now (next .entry) → roomAnswer r ≡ roomFrom CHAIN capacity ix slot) ⌝ }
-{
-    let mut at = slot;
-    let mut left = MAX_CHAIN;
-    while 0 < left {
-        if at == NO_SLOT {
-            return Room::Yes;
-        }
-        if capacity <= at {
-            return Room::Refused(STOP);
-        }
-        at = next_in_chain(next, at);
-        left -= 1;
-    }
-    if at == NO_SLOT {
-        return Room::No;
-    }
-    Room::Refused(STOP)
-}
-
 // Whether the arrays hold these sizes.
-fn sized(capacity: usize, buckets: usize, free_len: usize) -> bool
+pub fn sized(capacity: usize, buckets: usize, free_len: usize) -> bool
     ensures { λ r. ⌜ r ≡ sizes capacity buckets «free_len» ⌝ }
 {
     if 256 < capacity {

@@ -8,8 +8,8 @@ use lib.ListN.{length, take}
 use Rattle.basics.specs.Try.{Try, ok, refuse}
 use Rattle.eviction.specs.declared.Entry.{Entry}
 use Rattle.state.specs.declared.State.{State}
-use Rattle.sheet.specs.declared.Standing.{Standing}
-use Rattle.sheet.specs.Standing.{start}
+use Rattle.steps.specs.declared.Standing.{Standing}
+use Rattle.steps.specs.Standing.{start}
 use Rattle.sheet.specs.Run.{runFrom}
 
 -- a number in so many bytes, low byte first

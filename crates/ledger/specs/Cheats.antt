@@ -6,7 +6,7 @@ use Rattle.basics.specs.Try.{ok, refuse}
 use Rattle.basics.specs.Refusals.{STALE, STOP}
 use Rattle.basics.specs.Answers.{done}
 use Rattle.eviction.specs.Entries.{at}
-use Rattle.maintenance.specs.Reclaim.{noSlots}
+use Rattle.reclaim.specs.Reclaim.{noSlots}
 use Rattle.ledger.specs.Calls.{Machine, rules}
 
 -- "CapacityBusy before looking at stack or heap"

@@ -1,19 +1,15 @@
--- The ends of the rules of victim, access, publish and abort, each as an equation on plain variables, and what the code's answers tell of a
--- rule. Assumes nothing.
-use Prim.Native.Nat.{ℕ, min, _+_, _-_, _≤_, _<_}
+-- The ends of the rule of access, each as an equation on plain variables, and what the code's answers tell of a rule. Assumes nothing.
+use Prim.Native.Nat.{ℕ, _+_, _≤_, _<_}
 use mathlib.Core.Path.{_≡_, refl, sym, _∙_, ap}
 use mathlib.Core.Bool.{Bool, true, false}
 use mathlib.Core.List.{List}
-use mathlib.Core.Option.{Option, none, some}
-use native.Mathlib.Omega.{arith}
+use mathlib.Core.Option.{none, some}
 use lib.ListN.{length}
-use borrow.Author.Tests.{lt-ltb, le-ltb, le-leb, lt-leb, eq-eqb, ne-eqb}
+use borrow.Author.Tests.{lt-ltb, le-ltb, eq-eqb, ne-eqb}
 use Rattle.basics.specs.Try.{Try, ok, refuse, _>>=_, if_then_else_}
-use Rattle.basics.specs.Refusals.{STOP, PINS, STALE, EXHAUSTED, UNGIVEN}
+use Rattle.basics.specs.Refusals.{STOP, PINS, EXHAUSTED}
 use Rattle.basics.specs.Numbers.{MAX, more}
-use Rattle.basics.specs.Answers.{done}
 use Rattle.basics.specs.declared.Done.{Done}
-use Rattle.basics.proofs.Tests.{no-ltb, some-ltb}
 use Rattle.key.specs.declared.CacheKey.{CacheKey}
 use Rattle.index.specs.declared.Index.{Index}
 use Rattle.index.specs.declared.Moved.{Moved}
@@ -22,41 +18,21 @@ use Rattle.index.specs.Chain.{insertIndex}
 use Rattle.index.specs.Free.{takeVacant}
 use Rattle.index.proofs.Cases.{moved-back}
 use Rattle.eviction.specs.declared.EvictionHeap.{EvictionHeap}
-use Rattle.eviction.specs.declared.Cold.{Cold}
-use Rattle.eviction.specs.Answers.{coldAnswer}
-use Rattle.eviction.specs.Heap.{insertHeap}
-use Rattle.eviction.specs.Victim.{victimOf}
 use Rattle.state.specs.declared.Access.{Access}
 use Rattle.state.specs.declared.Counters.{Counters}
 use Rattle.state.specs.declared.LoadToken.{LoadToken}
-use Rattle.state.specs.declared.Slot.{Slot}
 use Rattle.state.specs.declared.State.{State}
-use Rattle.state.specs.Slots.{vacantSlot, cleanSlot, slotAt}
-use Rattle.state.specs.Parts.{withSlot, withIndex, withHeap, withNumbers, withCounters, withHeld, countsOf, vacate}
+use Rattle.state.specs.Slots.{slotAt}
+use Rattle.state.specs.Parts.{withNumbers, withCounters, countsOf}
 use Rattle.state.specs.Answers.{Given, hit, inProgress, reserved, evicted, busy, accessAnswer, After, told, unlessRefused}
 use Rattle.state.specs.Fresh.{sound}
 use Rattle.state.specs.Find.{found, waits, absent, seek}
-use Rattle.state.specs.Victim.{PLACES, victim}
 use Rattle.state.specs.Access.{Freed as FreedParts, takeTop, free, nextToken, countLoad, loadInto, occupy, reserve, capacityBusy, reserveAt, choose, miss, accessSeen, access}
-use Rattle.state.specs.Tokens.{outstanding, publish, abort}
 use Rattle.search.proofs.Cases.{hitTable, waitTable, Walking}
 use Rattle.load.specs.declared.Freed.{Freed}
 use Rattle.load.specs.Answers.{tryFreed, freedAnswer}
 
--- ---- the victim search: all of the clean slots where they are few, else 64
-module _ (c : ℕ) (h : EvictionHeap) (clean : ℕ) (pins : List ℕ) where
-  pub victim-few : clean < PLACES → victimOf clean c h pins ≡ victim c h clean pins
-  unfolding victim
-  victim-few l = let e : min clean PLACES ≡ clean = omega arith in rw e
-
-  pub victim-most : PLACES ≤ clean → victimOf PLACES c h pins ≡ victim c h clean pins
-  unfolding victim
-  victim-most l = let e : min clean PLACES ≡ PLACES = omega arith in rw e
-
 -- ---- a rule's result, from what the code answered for it
-pub chosen-told : {r v : Cold} {x : Try (Option ℕ)} → coldAnswer r ≡ x → r ≡ v → x ≡ coldAnswer v
-chosen-told e q = sym e ∙ ap coldAnswer q
-
 pub freed-told : (r : Freed) {a : Done} {x : Try FreedParts} → freedAnswer r ≡ x → r .answer ≡ a
     → x ≡ tryFreed (record { index = r .index; heap = r .heap; clean = r .clean; left = r .left }) a
 freed-told r e q = sym e ∙ ap (tryFreed (record { index = r .index; heap = r .heap; clean = r .clean; left = r .left })) q
@@ -172,65 +148,3 @@ module _ (t : State) (key : CacheKey) (allow : Bool) (pins : List ℕ) where
 -- the table at the loop's head is the one that came
 pub came : {a : After Given} {t t₀ : State} (key : CacheKey) (allow : Bool) (pins : List ℕ) → t ≡ t₀ → a ≡ access t key allow pins → a ≡ access t₀ key allow pins
 came key allow pins e q = q ∙ ap (λ (s : State). access s key allow pins) e
-
--- ---- publish: its ends
-module _ (t : State) (k : LoadToken) where
-  pub publish-unsound : sound t ≡ false → unlessRefused t (refuse STOP) ≡ publish t k
-  unfolding publish
-  publish-unsound e = rw e
-
-  module _ (y : sound t ≡ true) where
-    pub publish-stale : outstanding t k ≡ false → unlessRefused t (refuse STALE) ≡ publish t k
-    unfolding publish
-    publish-stale e = rw (y, e)
-
-    module _ (o : outstanding t k ≡ true) where
-      pub publish-ungiven : t .«next_access_sequence» < k .«access_sequence» → unlessRefused t (refuse UNGIVEN) ≡ publish t k
-      unfolding publish
-      publish-ungiven l = rw (y, o, lt-leb _ _ l)
-
-      module _ (l : k .«access_sequence» ≤ t .«next_access_sequence») {s : ℕ} (e : s ≡ k .slot) where
-        pub publish-kept : {n : ℕ} → insertHeap (t .capacity) (t .eviction) s (k .«access_sequence») ≡ refuse n → unlessRefused t (refuse n) ≡ publish t k
-        unfolding publish
-        publish-kept q = rw (y, o, le-leb _ _ l, ← e, q)
-
-        module _ {h : EvictionHeap} (put : insertHeap (t .capacity) (t .eviction) s (k .«access_sequence») ≡ ok h) where
-          pub publish-none : t .loading ≡ 0 → unlessRefused t (refuse STOP) ≡ publish t k
-          unfolding publish
-          publish-none z = rw (y, o, le-leb _ _ l, ← e, put, no-ltb _ z)
-
-          module _ (z : t .loading ≡ 0 → ⊥) where
-            pub publish-full : t .clean ≡ MAX → unlessRefused t (refuse STOP) ≡ publish t k
-            unfolding publish
-            publish-full m = rw (y, o, le-leb _ _ l, ← e, put, some-ltb _ z, eq-eqb _ _ m)
-
-            pub publishes : (t .clean ≡ MAX → ⊥)
-                → told (withHeld (withHeap (withSlot t s (cleanSlot (k .key) (k .«access_sequence»))) h) (t .clean + 1) (t .loading - 1)) done ≡ publish t k
-            unfolding publish
-            publishes m = rw (y, o, le-leb _ _ l, ← e, put, some-ltb _ z, ne-eqb _ _ m)
-
--- ---- abort: its ends
-module _ (t : State) (k : LoadToken) where
-  pub abort-unsound : sound t ≡ false → unlessRefused t (refuse STOP) ≡ abort t k
-  unfolding abort
-  abort-unsound e = rw e
-
-  module _ (y : sound t ≡ true) where
-    pub abort-stale : outstanding t k ≡ false → unlessRefused t (refuse STALE) ≡ abort t k
-    unfolding abort
-    abort-stale e = rw (y, e)
-
-    module _ (o : outstanding t k ≡ true) {s : ℕ} (e : s ≡ k .slot) where
-      pub abort-kept : {n : ℕ} → vacate (t .capacity) (t .index) (k .key) s ≡ refuse n → unlessRefused t (refuse n) ≡ abort t k
-      unfolding abort
-      abort-kept q = rw (y, o, ← e, q)
-
-      module _ {ix : Index} (cut : vacate (t .capacity) (t .index) (k .key) s ≡ ok ix) where
-        pub abort-none : t .loading ≡ 0 → unlessRefused t (refuse STOP) ≡ abort t k
-        unfolding abort
-        abort-none z = rw (y, o, ← e, cut, no-ltb _ z)
-
-        pub aborts : {v : Slot} → v ≡ vacantSlot → (t .loading ≡ 0 → ⊥)
-            → told (withHeld (withIndex (withSlot t s v) ix) (t .clean) (t .loading - 1)) done ≡ abort t k
-        unfolding abort
-        aborts v z = rw (v, y, o, ← e, cut, some-ltb _ z)

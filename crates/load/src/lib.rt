@@ -1,33 +1,24 @@
 // SPDX-FileCopyrightText: 2026 roolrz
 // SPDX-License-Identifier: Apache-2.0
 
-// state/mod.rs, the calls that make, publish and abort a load: access (the Rust's `access_with_victim`), publish and abort. Every call
-// works on any table and any pin bytes; a refusal hands the table back as it came, but for the generation that 7 in a reservation uses up.
+// state/mod.rs, the call that makes a load: access (the Rust's `access_with_victim`). It works on any table and any pin bytes; a refusal hands
+// the table back as it came, but for the generation that 7 in a reservation uses up.
 ghost use mathlib.Core.Path.{_≡_};
 ghost use Rattle.basics.specs.Try.{refuse};
-ghost use Rattle.state.specs.Answers.{accessedAfter, finishedAfter, unlessRefused};
-ghost use Rattle.state.specs.Access.{countLoad, free as freeRule, choose as chooseRule, access as accessRule};
-ghost use Rattle.state.specs.Tokens.{publish as publishRule, abort as abortRule};
+ghost use Rattle.state.specs.Answers.{accessedAfter};
+ghost use Rattle.state.specs.Access.{countLoad, free as freeRule, access as accessRule};
 ghost use Rattle.load.specs.Answers.{freedAnswer};
-ghost use Rattle.eviction.specs.Answers.{coldAnswer};
-ghost use Rattle.state.specs.Victim.{victim as victimRule, target as targetRule};
 use basics::Done;
 use eviction::Cold;
 use eviction::EvictionHeap;
 use index::Index;
-use index::Room;
-use index::Top;
 use key::CacheKey;
 use state::Access;
 use state::Accessed;
 use state::Counters;
-use state::Finished;
 use state::LoadToken;
 use state::Slot;
 use state::State;
-
-// The heap places that the victim search looks at.
-pub const PLACES: usize = 64;
 
 // Index, heap and number of clean slots once a slot is free for a key, and whether a clean key left it.
 struct Freed {
@@ -36,51 +27,6 @@ struct Freed {
     clean: usize,
     left: bool,
     answer: Done,
-}
-
-// The first unpinned slot among the first min(clean, 64) heap places.
-pub fn victim(capacity: usize, heap: EvictionHeap, clean: usize, pins: &[u8]) -> Cold
-    ensures { λ r. ⌜ coldAnswer r ≡ victimRule capacity heap clean (now (pins .entry)) ⌝ }
-{
-    if clean < PLACES {
-        return heap.victim(capacity, clean, pins);
-    }
-    heap.victim(capacity, PLACES, pins)
-}
-
-// The top of the free stack, else a victim.
-fn target(capacity: usize, index: Index, heap: EvictionHeap, clean: usize, pins: &[u8]) -> Cold
-    ensures { λ r. ⌜ coldAnswer r ≡ targetRule capacity index heap clean (now (pins .entry)) ⌝ }
-{
-    let top = index.vacant(capacity);
-    match top {
-        Top::Refused(why) => Cold::Refused(why),
-        Top::At(slot) => Cold::At(slot),
-        Top::Nothing => victim(capacity, heap, clean, pins),
-    }
-}
-
-// The slot to load an absent key into, or none where the answer is CapacityBusy.
-fn choose(
-    capacity: usize,
-    index: Index,
-    heap: EvictionHeap,
-    clean: usize,
-    key: CacheKey,
-    allow_load: bool,
-    pins: &[u8],
-) -> Cold
-    ensures { λ r. ⌜ coldAnswer r ≡ chooseRule capacity index heap clean key «allow_load» (now (pins .entry)) ⌝ }
-{
-    if !allow_load {
-        return Cold::Nothing;
-    }
-    let room = index.can_insert(capacity, key);
-    match room {
-        Room::Refused(why) => Cold::Refused(why),
-        Room::No => Cold::Nothing,
-        Room::Yes => target(capacity, index, heap, clean, pins),
-    }
 }
 
 // A slot is made free for a key: a clean key leaves it, or a vacant one is taken from the stack.
@@ -109,13 +55,13 @@ fn free(
             answer: answer,
         };
     }
-    let removed = heap.remove(capacity, slot);
+    let removed = sift::remove(heap, capacity, slot);
     let out = removed.answer;
     if let Done::Refused(why) = out {
         return kept(index, heap, why);
     }
     let key = previous.key;
-    let cut = index.remove(capacity, key, slot);
+    let cut = chains::remove(index, capacity, key, slot);
     let off = cut.answer;
     if let Done::Refused(why) = off {
         return kept(index, heap, why);
@@ -181,7 +127,7 @@ pub fn access(mut t: State, key: CacheKey, allow_load: bool, pins: &[u8]) -> Acc
         };
     }
     let mut slot = index::head(&t.index.heads, t.index.buckets, key);
-    let mut left: usize = index::MAX_CHAIN;
+    let mut left: usize = chains::MAX_CHAIN;
     while slot != basics::NO_SLOT {
         if left == 0 {
             return Accessed {
@@ -242,7 +188,7 @@ pub fn access(mut t: State, key: CacheKey, allow_load: bool, pins: &[u8]) -> Acc
     }
     let index = t.index;
     let heap = t.eviction;
-    let chosen = choose(t.capacity, index, heap, t.clean, key, allow_load, pins);
+    let chosen = choice::choose(t.capacity, index, heap, t.clean, key, allow_load, pins);
     match chosen {
         Cold::Refused(why) => {
             return Accessed {
@@ -289,7 +235,7 @@ pub fn access(mut t: State, key: CacheKey, allow_load: bool, pins: &[u8]) -> Acc
                 };
             }
             let links = freed.index;
-            let linked = links.insert(t.capacity, key, into);
+            let linked = chains::insert(links, t.capacity, key, into);
             let put = linked.answer;
             if let Done::Refused(why) = put {
                 return Accessed {
@@ -330,109 +276,5 @@ pub fn access(mut t: State, key: CacheKey, allow_load: bool, pins: &[u8]) -> Acc
                 answer: Access::Reserved(token, freed.left),
             }
         }
-    }
-}
-
-fn stopped(t: State, why: u8) -> Finished
-    ensures { λ r. ⌜ finishedAfter r ≡ unlessRefused t (refuse why) ⌝ }
-{
-    Finished {
-        state: t,
-        answer: Done::Refused(why),
-    }
-}
-
-// The slot becomes clean with the token's use number.
-pub fn publish(mut t: State, token: LoadToken) -> Finished
-    ensures { λ r. ⌜ finishedAfter r ≡ publishRule t token ⌝ }
-{
-    if !state::sound(
-        t.capacity,
-        t.index.buckets,
-        t.index.free_len,
-        t.eviction.len,
-    ) {
-        return stopped(t, basics::STOP);
-    }
-    let at = basics::wide(token.slot);
-    if t.capacity <= at {
-        return stopped(t, basics::STALE);
-    }
-    let entry = t.slots[at];
-    if !state::loads_for(entry, token) {
-        return stopped(t, basics::STALE);
-    }
-    if t.next_access_sequence < token.access_sequence {
-        return stopped(t, basics::UNGIVEN);
-    }
-    let dated = token.access_sequence;
-    let heap = t.eviction;
-    let inserted = heap.insert(t.capacity, at, dated);
-    let answer = inserted.answer;
-    if let Done::Refused(why) = answer {
-        return stopped(t, why);
-    }
-    if t.loading == 0 {
-        return stopped(t, basics::STOP);
-    }
-    if t.clean == basics::MAX_COUNT {
-        return stopped(t, basics::STOP);
-    }
-    t.clean = t.clean + 1;
-    t.loading = t.loading - 1;
-    let grown = inserted.heap;
-    let key = token.key;
-    t.eviction = grown;
-    t.slots[at] = Slot {
-        kind: state::CLEAN,
-        key: key,
-        generation: 0,
-        last_access: dated,
-    };
-    Finished {
-        state: t,
-        answer: Done::Done,
-    }
-}
-
-// The slot is free again.
-pub fn abort(mut t: State, token: LoadToken) -> Finished
-    ensures { λ r. ⌜ finishedAfter r ≡ abortRule t token ⌝ }
-{
-    if !state::sound(
-        t.capacity,
-        t.index.buckets,
-        t.index.free_len,
-        t.eviction.len,
-    ) {
-        return stopped(t, basics::STOP);
-    }
-    let slot = basics::wide(token.slot);
-    if t.capacity <= slot {
-        return stopped(t, basics::STALE);
-    }
-    let entry = t.slots[slot];
-    if !state::loads_for(entry, token) {
-        return stopped(t, basics::STALE);
-    }
-    let index = t.index;
-    let key = token.key;
-    let vacated = detach::vacate(t.capacity, index, key, slot);
-    let answer = vacated.answer;
-    if let Done::Refused(why) = answer {
-        return stopped(t, why);
-    }
-    if t.loading == 0 {
-        return stopped(t, basics::STOP);
-    }
-    let fewer = t.loading - 1;
-    let links = vacated.index;
-    let vacant = state::vacant_slot();
-    t.index = links;
-    t.slots[slot] = vacant;
-    t.loading = fewer;
-    Finished {
-        state: t,
-        answer: Done::Done,
     }
 }

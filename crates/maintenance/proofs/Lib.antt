@@ -1,5 +1,3 @@
 pub mod Cases
-pub mod Kept
 pub mod Moves
 pub mod Resizes
-pub mod Reclaims

@@ -1,6 +1,6 @@
 -- The loops of resize one slot on and at their ends, and what each step does with a slot. Assumes nothing.
 use Prim.Native.Nat.{ℕ, zero, suc, _+_, _-_, _*_, _/_, _≤_, _<_}
-use mathlib.Core.Path.{_≡_, refl, sym, _∙_, ap}
+use mathlib.Core.Path.{_≡_, refl, _∙_, ap}
 use mathlib.Core.Bool.{Bool, true, false, _&&_}
 use mathlib.Core.List.{List, _∷_}
 use mathlib.Core.Option.{Option, none, some}
@@ -11,9 +11,8 @@ use borrow.Author.Tests.{leb-false, lt-ltb, le-ltb, le-leb, lt-leb, eq-eqb, ne-e
 use Rattle.basics.specs.Try.{Try, ok, refuse, _>>=_, _>>_, if_then_else_, need}
 use Rattle.basics.specs.Refusals.{STOP}
 use Rattle.basics.specs.Numbers.{NONE}
-use Rattle.basics.specs.Answers.{Fine, done, doneAnswer}
+use Rattle.basics.specs.Answers.{Fine}
 use Rattle.basics.specs.Lists.{eachSlot}
-use Rattle.basics.specs.declared.Done.{Done}
 use Rattle.basics.proofs.Tests.{yes!, no!, is, one-less, no-ltb, some-ltb, met}
 use Rattle.basics.proofs.Capacities.{capacity-allowed}
 use Rattle.key.specs.declared.CacheKey.{CacheKey}
@@ -22,9 +21,9 @@ use Rattle.eviction.specs.Entries.{at}
 use Rattle.state.specs.declared.State.{State}
 use Rattle.state.specs.declared.Finished.{Finished}
 use Rattle.state.specs.Slots.{slotAt, cleanWith}
-use Rattle.state.specs.Answers.{After, told, unlessRefused, finishedAfter}
+use Rattle.state.specs.Answers.{After, finishedAfter}
 use Rattle.state.specs.Fresh.{sound, fresh, new}
-use Rattle.state.specs.Remove.{detachClean, removeClean, needClean, detach, remove}
+use Rattle.state.specs.Remove.{detachClean, removeClean}
 use Rattle.state.specs.Reads.{peekFrom, peekClean}
 use Rattle.state.proofs.Cases.{sound-sizes}
 use Rattle.maintenance.specs.Restore.{restore, restorePinned, orElse, candidate}
@@ -53,26 +52,6 @@ module _ {A : Type 0} (step : ℕ → A → Try A) (c slot : ℕ) (a : A) {x : T
   pub each-stops : {n : ℕ} → step slot a ≡ refuse n → refuse n ≡ x
   unfolding eachSlot
   each-stops f = rw (left-suc c slot l, f) at e
-
--- ---- the answer of a call that takes a clean key out, as its rule's result
-
-finished-undo : (t : State) (x : Try State) → x ≡ (unlessRefused t (x >>= λ u. ok (told u done)) .answer >> ok (unlessRefused t (x >>= λ u. ok (told u done)) .table))
-finished-undo t (ok u) = refl
-finished-undo t (refuse n) = refl
-
-finished-told : (r : Finished) {a : Done} (t : State) (x : Try State) → finishedAfter r ≡ unlessRefused t (x >>= λ u. ok (told u done)) → r .answer ≡ a
-    → x ≡ (doneAnswer a >> ok (r .state))
-finished-told r t x e q =
-    finished-undo t x ∙ ap (λ (f : After Fine). f .answer >> ok (f .table)) (sym e) ∙ ap (λ (d : Done). doneAnswer d >> ok (r .state)) q
-
-module _ (r : Finished) {a : Done} (t : State) (slot : ℕ) (y : sound t ≡ true) (l : slot < t .capacity) (k : slotAt t slot .kind ≡ 2) where
-  pub detach-told : finishedAfter r ≡ detach t slot → r .answer ≡ a → detachClean t slot ≡ (doneAnswer a >> ok (r .state))
-  unfolding detach needClean
-  detach-told e q = finished-told r t (detachClean t slot) (rw (y, lt-ltb slot (t .capacity) l, eq-eqb (slotAt t slot .kind) 2 k) at e) q
-
-  pub remove-told : finishedAfter r ≡ remove t slot → r .answer ≡ a → removeClean t slot ≡ (doneAnswer a >> ok (r .state))
-  unfolding remove needClean
-  remove-told e q = finished-told r t (removeClean t slot) (rw (y, lt-ltb slot (t .capacity) l, eq-eqb (slotAt t slot .kind) 2 k) at e) q
 
 -- ---- a slot that peek_clean found is below the capacity
 

@@ -9,7 +9,7 @@ use Rattle.state.specs.declared.State.{State}
 use Rattle.maintenance.specs.Answers.{Resizing}
 use Rattle.maintenance.specs.Pins.{raised}
 use Rattle.maintenance.specs.Resize.{resize}
-use Rattle.maintenance.specs.Reclaim.{reclaim}
+use Rattle.reclaim.specs.Reclaim.{reclaim}
 use Rattle.invariant.specs.Table.{Dated, Valid}
 use Rattle.invariant.proofs.FreshTable.{fresh-valid}
 use Rattle.maintenance_laws.specs.Remade.{Remade}

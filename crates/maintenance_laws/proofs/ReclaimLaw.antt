@@ -12,7 +12,7 @@ use Rattle.basics.specs.Numbers.{NONE}
 use Rattle.basics.proofs.Tests.{yes!, no!, is}
 use Rattle.eviction.specs.Entries.{at}
 use Rattle.state.specs.declared.State.{State}
-use Rattle.maintenance.specs.Reclaim.{BATCH, Taken, takenOne, reclaimFrom, reclaim}
+use Rattle.reclaim.specs.Reclaim.{BATCH, Taken, takenOne, reclaimFrom, reclaim}
 use Rattle.invariant.specs.Table.{lastIn, Inv}
 use Rattle.invariant.proofs.TableParts.{sound-inv, at-place, clean-len}
 use Rattle.invariant.proofs.StepLeave.{remove-step}

@@ -15,8 +15,8 @@ use Rattle.eviction.specs.Victim.{unpinned}
 use Rattle.state.specs.declared.State.{State}
 use Rattle.state.specs.Slots.{slotAt, vacantSlot, isClean}
 use Rattle.state.specs.Victim.{PLACES, victim}
-use Rattle.maintenance.specs.Answers.{Reclaiming}
-use Rattle.maintenance.specs.Reclaim.{BATCH, noSlots}
+use Rattle.reclaim.specs.Answers.{Reclaiming}
+use Rattle.reclaim.specs.Reclaim.{BATCH, noSlots}
 use Rattle.invariant.specs.Table.{Valid, Step}
 
 -- the slots removed from t, in order, each "chosen as a victim is" of the table that those before it left, and what they leave

@@ -1,20 +1,18 @@
 // SPDX-FileCopyrightText: 2026 roolrz
 // SPDX-License-Identifier: Apache-2.0
 
-// state/mod.rs, the calls that search a key's chain: find (lookup, and access in crate load, make the same walk themselves), lookup and
-// peek_clean. Every call works on any table; a refusal hands the table back as it came.
+// state/mod.rs, what searches a key's chain: find (lookup in crate lookup, and access in crate load, make the same walk themselves) and peek_clean.
+// Every function works on any table.
 ghost use mathlib.Core.Path.{_≡_};
 ghost use Rattle.eviction.specs.Answers.{movedOf as heapMovedOf};
 ghost use Rattle.state.specs.Slots.{occupied, cleanWith};
-ghost use Rattle.state.specs.Answers.{lookedAfter, foundAnswer};
+ghost use Rattle.state.specs.Answers.{foundAnswer};
 ghost use Rattle.state.specs.Find.{findKey, touchNext};
-ghost use Rattle.state.specs.Lookup.{lookup as lookupRule};
 ghost use Rattle.state.specs.Reads.{peekClean};
 use basics::Done;
 use eviction::EvictionHeap;
 use key::CacheKey;
 use state::Found;
-use state::Looked;
 use state::Slot;
 use state::State;
 
@@ -49,7 +47,7 @@ pub fn touch_next(capacity: usize, heap: EvictionHeap, slot: usize, last: u64) -
             answer: Done::Refused(basics::EXHAUSTED),
         };
     }
-    heap.touch(capacity, slot, last + 1)
+    sift::touch(heap, capacity, slot, last + 1)
 }
 
 // The slot of the key's chain that holds the key, clean or loading.
@@ -65,7 +63,7 @@ pub fn find(t: State, key: CacheKey) -> Found
         return Found::Refused(basics::STOP);
     }
     let mut slot = index::head(&t.index.heads, t.index.buckets, key);
-    let mut left: usize = index::MAX_CHAIN;
+    let mut left: usize = chains::MAX_CHAIN;
     while 0 < left {
         if slot == basics::NO_SLOT {
             return Found::Nothing;
@@ -91,86 +89,6 @@ pub fn find(t: State, key: CacheKey) -> Found
     }
 }
 
-// The walk along the chain stands here, because `find` takes the table by value, which copies it.
-pub fn lookup(mut t: State, key: CacheKey) -> Looked
-    ensures { λ r. ⌜ lookedAfter r ≡ lookupRule t key ⌝ }
-{
-    if !state::sound(
-        t.capacity,
-        t.index.buckets,
-        t.index.free_len,
-        t.eviction.len,
-    ) {
-        return Looked {
-            state: t,
-            answer: Found::Refused(basics::STOP),
-        };
-    }
-    let mut here = index::head(&t.index.heads, t.index.buckets, key);
-    let mut steps: usize = index::MAX_CHAIN;
-    while here != basics::NO_SLOT {
-        if steps == 0 {
-            return Looked {
-                state: t,
-                answer: Found::Refused(basics::STOP),
-            };
-        }
-        if t.capacity <= here {
-            return Looked {
-                state: t,
-                answer: Found::Refused(basics::STOP),
-            };
-        }
-        let entry = t.slots[here];
-        if !holds_key(entry) {
-            return Looked {
-                state: t,
-                answer: Found::Refused(basics::STOP),
-            };
-        }
-        let resident = entry.key;
-        if resident.same(key) {
-            if entry.kind != state::CLEAN {
-                t.counters.in_progress = basics::one_more(t.counters.in_progress);
-                return Looked {
-                    state: t,
-                    answer: Found::Nothing,
-                };
-            }
-            let last = t.next_access_sequence;
-            let heap = t.eviction;
-            let touched = touch_next(t.capacity, heap, here, last);
-            let answer = touched.answer;
-            if let Done::Refused(why) = answer {
-                return Looked {
-                    state: t,
-                    answer: Found::Refused(why),
-                };
-            }
-            let moved = touched.heap;
-            t.eviction = moved;
-            t.next_access_sequence = last + 1;
-            t.slots[here] = Slot {
-                kind: state::CLEAN,
-                key: key,
-                generation: 0,
-                last_access: last + 1,
-            };
-            t.counters.hits = basics::one_more(t.counters.hits);
-            return Looked {
-                state: t,
-                answer: Found::At(here),
-            };
-        }
-        here = index::next_in_chain(&t.index.next, here);
-        steps -= 1;
-    }
-    Looked {
-        state: t,
-        answer: Found::Nothing,
-    }
-}
-
 // The slot of the key's chain that is clean with the key; a loading one is passed.
 pub fn peek_clean(t: State, key: CacheKey) -> Found
     ensures { λ r. ⌜ foundAnswer r ≡ peekClean t key ⌝ }
@@ -184,7 +102,7 @@ pub fn peek_clean(t: State, key: CacheKey) -> Found
         return Found::Refused(basics::STOP);
     }
     let mut at = index::head(&t.index.heads, t.index.buckets, key);
-    let mut left: usize = index::MAX_CHAIN;
+    let mut left: usize = chains::MAX_CHAIN;
     while 0 < left {
         if at == basics::NO_SLOT {
             return Found::Nothing;

@@ -1,2 +1,2 @@
-pub mod Bytes
-pub mod Cases
+pub mod Runs
+pub mod Blocks

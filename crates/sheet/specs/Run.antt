@@ -1,17 +1,17 @@
 -- A whole sheet: the record number from 0, a line for each record, "and ends" after `bad`.
-use Prim.Native.Nat.{ℕ, zero, suc, _+_, _/_, _-_, min}
+use Prim.Native.Nat.{ℕ, zero, suc, _+_, _*_, _/_, _-_, min}
 use mathlib.Core.Bool.{Bool, true, false}
 use mathlib.Core.List.{List, [], _++_}
-use lib.Dec.{eqb}
+use lib.Dec.{eqb, ltb}
 use lib.ListN.{length, drop, take}
 use Rattle.basics.specs.Try.{if_then_else_}
 use Rattle.basics.specs.Numbers.{MAX}
-use Rattle.sheet.specs.declared.Standing.{Standing}
-use Rattle.sheet.specs.declared.Stepped.{Stepped}
+use Rattle.steps.specs.declared.Standing.{Standing}
+use Rattle.steps.specs.declared.Stepped.{Stepped}
 use Rattle.sheet.specs.declared.Ran.{Ran}
-use Rattle.sheet.specs.Words.{isBad, lineOf}
-use Rattle.sheet.specs.Standing.{start, cleanOf, loadingOf}
-use Rattle.sheet.specs.Steps.{step}
+use Rattle.lines.specs.Words.{isBad, lineOf}
+use Rattle.steps.specs.Standing.{start, cleanOf, loadingOf}
+use Rattle.steps.specs.Steps.{step}
 
 -- what stands after some records, the number of the next one, whether `bad` was printed, and what was printed
 pub record Printed : Type 0 where
@@ -43,9 +43,13 @@ runFrom (suc left) s n bytes =
     inFront (lineAfter n (step s bytes))
     (orEnd (isBad (step s bytes .said)) (step s bytes .standing) n (runFrom left (step s bytes .standing) (n + 1) (drop 24 bytes)))
 
--- what the program prints for a sheet; no sheet has more records than bytes
+-- every record of the bytes; there are no more records than bytes
+abbrev pub runAll : Standing → ℕ → List ℕ → Printed
+runAll s n bytes = runFrom (length bytes) s n bytes
+
+-- what the program prints for a sheet
 unfoldable pub runSheet : List ℕ → List ℕ
-runSheet bytes = runFrom (length bytes) start 0 bytes .text
+runSheet bytes = runAll start 0 bytes .text
 
 -- ── what the code works on: a block of bytes, and a lent list to print into ──
 -- the most bytes of a line
@@ -59,3 +63,20 @@ turns n room = min (room / LINE) (MAX - n)
 -- what the code hands back, read so; `out` is what the lent list holds afterwards
 abbrev pub ranAfter : Ran → List ℕ → Printed
 ranAfter r out = printed (r .standing) (r .number) (r .ended) (take (r .written) out)
+
+-- ── what the program does: it reads a block of whole records, prints its lines, and goes on with what stands ──
+abbrev pub BLOCK : ℕ
+BLOCK = 24 * 2048
+
+abbrev pub ROOM : ℕ
+ROOM = LINE * 2048
+
+-- unless `bad` was printed, what the bytes that follow print
+abbrev pub andThen : Printed → (Standing → ℕ → List ℕ) → List ℕ
+andThen p rest = p .text ++ (if p .ended then [] else rest (p .standing) (p .number))
+
+-- at most so many blocks of the input; a short one is the last
+unfoldable pub inBlocks : ℕ → Standing → ℕ → List ℕ → List ℕ
+inBlocks zero s n input = []
+inBlocks (suc left) s n input =
+    andThen (runFrom (turns n ROOM) s n (take BLOCK input)) (λ s n. if ltb (length input) BLOCK then [] else inBlocks left s n (drop BLOCK input))

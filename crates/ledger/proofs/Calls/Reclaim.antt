@@ -8,8 +8,8 @@ use lib.ListN.{length, replicate}
 use Rattle.basics.specs.Numbers.{NONE}
 use Rattle.basics.specs.Lists.{some?}
 use Rattle.state.specs.declared.State.{State}
-use Rattle.maintenance.specs.Reclaim as rules
-use Rattle.maintenance.specs.Reclaim.{BATCH}
+use Rattle.reclaim.specs.Reclaim as rules
+use Rattle.reclaim.specs.Reclaim.{BATCH}
 use Rattle.maintenance_laws.specs.Reclaim.{Removals, none-yet!, one-more!, refused!, reclaimed! }
 use Rattle.maintenance_laws.proofs.Lists.{some-end, take-front}
 use Rattle.maintenance_laws.proofs.ReclaimLaw.{reclaim-law}

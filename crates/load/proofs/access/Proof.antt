@@ -9,7 +9,8 @@ use Rattle.state.specs.Find.{touchNext}
 use Rattle.state.specs.Access.{loadInto}
 use Rattle.state.proofs.Cases.{sound-sizes, heap-told, index-told}
 use Rattle.search.proofs.Cases.{walk-starts, walk-in, walk-ends, walk-long, walk-astray, walk-vacant, walk-meets, walk-on, seek-refused, seek-absent, seek-waits, seek-stops, seek-hits, touched-next}
-use Rattle.load.proofs.Cases.{chosen-told, freed-told, PinnedWalk, came, access-unsound, access-unpinned, access-stopped, access-waits, access-hits, access-unchosen, access-busy, access-reserves, access-unreserved, no-generation, no-use, no-slot, not-freed, not-linked, not-counted, reserves}
+use Rattle.choice.proofs.Cases.{chosen-told}
+use Rattle.load.proofs.Cases.{freed-told, PinnedWalk, came, access-unsound, access-unpinned, access-stopped, access-waits, access-hits, access-unchosen, access-busy, access-reserves, access-unreserved, no-generation, no-use, no-slot, not-freed, not-linked, not-counted, reserves}
 use borrow.Author.Needs.{needs}
 use Rattle.load.proofs.access.Statement.{statement}
 use Rattle.load.proofs.access.Tie as tie

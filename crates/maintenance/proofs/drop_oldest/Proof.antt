@@ -8,8 +8,9 @@ use Rattle.state.specs.declared.State.{State}
 use Rattle.state.specs.Fresh.{sound}
 use Rattle.state.proofs.Cases.{sound-sizes}
 use Rattle.maintenance.specs.Move.{movingOf, dropOldest}
-use Rattle.maintenance.proofs.Kept.{remove-keeps}
-use Rattle.maintenance.proofs.Moves.{remove-told, drop-end, drop-fits, drop-none, drop-past, drop-unclean, drop-stops, drop-on}
+use Rattle.detach.proofs.Kept.{remove-keeps}
+use Rattle.detach.proofs.Told.{remove-told}
+use Rattle.maintenance.proofs.Moves.{drop-end, drop-fits, drop-none, drop-past, drop-unclean, drop-stops, drop-on}
 use Rattle.maintenance.proofs.drop_oldest.Statement.{statement}
 use Rattle.maintenance.proofs.drop_oldest.Tie as tie
 

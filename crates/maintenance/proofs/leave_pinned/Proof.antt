@@ -12,8 +12,9 @@ use Rattle.state.specs.Fresh.{sound}
 use Rattle.state.proofs.Cases.{sound-sizes, found-told}
 use Rattle.maintenance.specs.Move.{movingOf, leavePinned}
 use Rattle.maintenance.proofs.Cases.{all-left}
-use Rattle.maintenance.proofs.Kept.{detach-keeps}
-use Rattle.maintenance.proofs.Moves.{take-same, each-end, each-on, each-stops, detach-told, peek-low, leave-unclean, leave-refused, leave-absent, leave-stops, leave-left}
+use Rattle.detach.proofs.Kept.{detach-keeps}
+use Rattle.detach.proofs.Told.{detach-told}
+use Rattle.maintenance.proofs.Moves.{take-same, each-end, each-on, each-stops, peek-low, leave-unclean, leave-refused, leave-absent, leave-stops, leave-left}
 use Rattle.maintenance.proofs.leave_pinned.Statement.{statement}
 use Rattle.maintenance.proofs.leave_pinned.Tie as tie
 

@@ -11,8 +11,9 @@ use Rattle.state.specs.Fresh.{sound}
 use Rattle.state.proofs.Cases.{sound-sizes, found-told}
 use Rattle.maintenance.specs.Move.{movingOf, moveRest}
 use Rattle.maintenance.proofs.Cases.{all-left}
-use Rattle.maintenance.proofs.Kept.{remove-keeps}
-use Rattle.maintenance.proofs.Moves.{each-end, each-on, each-stops, remove-told, peek-low, move-unclean, move-refused, move-stops, move-removed, move-moved}
+use Rattle.detach.proofs.Kept.{remove-keeps}
+use Rattle.detach.proofs.Told.{remove-told}
+use Rattle.maintenance.proofs.Moves.{each-end, each-on, each-stops, peek-low, move-unclean, move-refused, move-stops, move-removed, move-moved}
 use Rattle.maintenance.proofs.move_rest.Statement.{statement}
 use Rattle.maintenance.proofs.move_rest.Tie as tie
 
