@@ -6,18 +6,18 @@ use mathlib.Core.Path.{_≡_, refl, sym, _∙_, ap}
 use mathlib.Core.Bool.{Bool, true, false}
 use mathlib.Core.List.{List, [], _∷_, _++_, append-assoc, append-nil}
 use lib.Dec.{eqb, ltb}
-use lib.ListN.{length, take, drop, getD, length-append, length-take, length-drop, take-append-drop, List·getD-append}
+use lib.ListN.{length, take, drop, length-append, length-drop, take-append-drop, List·getD-append}
 use lib.Seq.{drop-append-le, take-all, length-take-le}
-use borrow.Author.Tests.{eqb-true, eqb-false, ltb-true, ltb-false, lt-ltb, le-ltb, le-leb}
+use borrow.Author.Tests.{ltb-true, ltb-false, lt-ltb, le-ltb, le-leb}
 use Rattle.basics.specs.Try.{if_then_else_}
 use Rattle.basics.specs.Numbers.{MAX}
-use Rattle.basics.proofs.Tests.{Is, is, yes!, no! }
+use Rattle.basics.proofs.Tests.{is, yes!, no! }
 use Rattle.lines.specs.Words.{isBad}
 use Rattle.lines.specs.Record.{byteAt, low, inRange, fieldsOf, readRecord}
 use Rattle.steps.specs.declared.Standing.{Standing}
 use Rattle.steps.specs.Steps.{stepRecord, step}
 use Rattle.steps.specs.Standing.{start}
-use Rattle.sheet.specs.Run.{Printed, printed, inFront, lineAfter, orEnd, runFrom, runAll, runSheet, turns, BLOCK, ROOM, andThen, inBlocks}
+use Rattle.sheet.specs.Run.{Printed, printed, inFront, lineAfter, orEnd, runFrom, runAll, runSheet, turns, BLOCK, ROOM, inBlocks}
 use Rattle.sheet.proofs.Runs.{no-record, no-bytes, bad-step, good-step}
 
 -- ---- a record is its first 24 bytes

@@ -1,21 +1,21 @@
 -- Laws on a run: a byte of a line copied, one record, and none. Assumes nothing.
-use Prim.Native.Nat.{ℕ, zero, suc, _+_, _-_, _*_, _≤_, _<_}
+use Prim.Native.Nat.{ℕ, zero, suc, _+_, _-_, _≤_, _<_}
 use native.Mathlib.Omega.{arith}
 use native.Mathlib.Numerals.{add-one}
 use mathlib.Core.Path.{_≡_, refl, sym, _∙_, ap}
 use mathlib.Core.Bool.{true, false}
-use mathlib.Core.List.{List, [], _∷_, _++_, append-assoc, append-nil}
+use mathlib.Core.List.{List, [], _++_, append-assoc, append-nil}
 use lib.Dec.{leb}
 use lib.ListN.{length, take, drop, set, getD, length-drop}
-use lib.Seq.{take-suc-set, drop-set-lt, drop-drop, drop-cons, append-snoc, take-all}
+use lib.Seq.{take-suc-set, drop-drop, drop-cons, append-snoc, take-all}
 use borrow.Author.Tests.{eq-eqb, ne-eqb, leb-true}
-use Rattle.basics.proofs.Tests.{Is, is, yes!, no!, false-true}
+use Rattle.basics.proofs.Tests.{is, yes!, no!, false-true}
 use Rattle.lines.specs.Words.{isBad}
 use Rattle.lines.specs.Record.{inRange, readRecord}
 use Rattle.steps.specs.declared.Standing.{Standing}
 use Rattle.steps.specs.declared.Stepped.{Stepped}
 use Rattle.steps.specs.Steps.{stepRecord, step}
-use Rattle.sheet.specs.Run.{Printed, printed, inFront, lineAfter, orEnd, runFrom}
+use Rattle.sheet.specs.Run.{printed, inFront, lineAfter, orEnd, runFrom}
 
 -- ---- a line, copied byte by byte
 -- what is copied and what is left of the line stay the same list

@@ -32,7 +32,7 @@ fn write_line(line: Line, out: &mut [u8], at: usize) -> usize
     let bytes = line.bytes;
     let mut from = line.from;
     let mut to = at;
-    while from < 96 {
+    while from < LINE {
         out[to] = bytes[from];
         to += 1;
         from += 1;
@@ -124,7 +124,7 @@ pub fn run(standing: Standing, first: u64, bytes: &[u8], out: &mut [u8]) -> Ran
             };
         }
         number += 1;
-        at += 24;
+        at += lines::RECORD;
         left -= 1;
     }
     Ran {

@@ -4,19 +4,14 @@ use Rattle.sheet.specs.Run.{turns}
 use borrow.Author.Needs.{needs}
 use Rattle.sheet.proofs.turns.Statement.{statement}
 use Rattle.sheet.proofs.turns.Tie as tie
-use Rattle.sheet.proofs.turns.Reads as reads
-use Rattle.sheet.proofs.turns.Lts as lts
 
--- src/lib.rt:56:20
 sub-numbers : tie.Need-sub-numbers
 sub-numbers c = search needs
 
--- src/lib.rt:59:9
 returns : tie.Need-returns
 unfolding turns
 returns c = omega arith
 
--- src/lib.rt:53:1
 returns-2 : tie.Need-returns-2
 unfolding turns
 returns-2 c = omega arith
