@@ -4,13 +4,13 @@ use mathlib.Core.Bool.{Bool, true, false, _&&_}
 use mathlib.Core.List.{List, [], _∷_, _++_, map}
 use mathlib.Core.Option.{Option, none, some}
 use lib.Dec.{eqb}
-use lib.ListN.{length, take}
+use lib.ListN.{take}
 use Rattle.basics.specs.Try.{Try, ok, refuse}
 use Rattle.eviction.specs.declared.Entry.{Entry}
 use Rattle.state.specs.declared.State.{State}
 use Rattle.steps.specs.declared.Standing.{Standing}
 use Rattle.steps.specs.Standing.{start}
-use Rattle.sheet.specs.Run.{runFrom}
+use Rattle.sheet.specs.Run.{runAll}
 
 -- a number in so many bytes, low byte first
 unfoldable pub inBytes : ℕ → ℕ → List ℕ
@@ -54,15 +54,15 @@ chain (suc n) = access 0 (n * 512) ++ chain n
 
 -- what stands after a sheet
 unfoldable pub after : List ℕ → Standing
-after sheet = runFrom (length sheet) start 0 sheet .standing
+after sheet = runAll start 0 sheet .standing
 
 -- what a sheet prints from there on, with record numbers from 0
 unfoldable pub prints : Standing → List ℕ → List ℕ
-prints s sheet = runFrom (length sheet) s 0 sheet .text
+prints s sheet = runAll s 0 sheet .text
 
 -- the table that it leaves
 unfoldable pub leaves : Standing → List ℕ → State
-leaves s sheet = runFrom (length sheet) s 0 sheet .standing .state
+leaves s sheet = runAll s 0 sheet .standing .state
 
 -- the slots of the heap, place by place
 unfoldable pub heapSlots : State → List ℕ

@@ -17,7 +17,7 @@ use Rattle.lines.specs.Record.{byteAt, low, inRange, fieldsOf, readRecord}
 use Rattle.steps.specs.declared.Standing.{Standing}
 use Rattle.steps.specs.Steps.{stepRecord, step}
 use Rattle.steps.specs.Standing.{start}
-use Rattle.sheet.specs.Run.{Printed, printed, inFront, lineAfter, orEnd, runFrom, runAll, runSheet, turns, BLOCK, ROOM, inBlocks}
+use Rattle.sheet.specs.Run.{Printed, inFront, lineAfter, orEnd, runFrom, runAll, runSheet, turns, BLOCK, ROOM, inBlocks}
 use Rattle.sheet.proofs.Runs.{no-record, no-bytes, bad-step, good-step}
 
 -- ---- a record is its first 24 bytes

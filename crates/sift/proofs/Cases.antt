@@ -5,6 +5,7 @@ use mathlib.Core.Bool.{true, false}
 use native.Mathlib.Omega.{arith}
 use lib.Dec.{leb, eqb}
 use lib.ListN.{set}
+use lib.Seq.{set-set, set-getD}
 use borrow.Author.Tests.{lt-ltb, le-ltb, le-leb, lt-leb, eq-eqb, ne-eqb}
 use Rattle.basics.specs.Try.{Try, ok, refuse, _>>=_, if_then_else_}
 use Rattle.basics.specs.Refusals.{STOP}
@@ -29,6 +30,14 @@ pub moved-refused : (h : EvictionHeap) (m : Moved) {x : Try EvictionHeap} {n : �
     → tryMoved m ≡ x → m .answer ≡ Done.Refused n → r ≡ movedOf k (refuse n) → k ≡ h → r ≡ movedOf h x
 moved-refused h m {n = n} e d f s =
     f ∙ ap (λ (g : EvictionHeap). movedOf g (refuse n)) s ∙ ap (movedOf h) (sym (ap (tryDone (m .heap)) d) ∙ e)
+
+-- what a refused sift leaves, taken back: the entry, and for an insert also the place
+pub entry-back : (h : EvictionHeap) (p : ℕ) (e : Entry) → heapOf (set (set (h .entries) p e) p (at h p)) (h .len) (h .positions) ≡ h
+entry-back h p e = rw (set-set, set-getD)
+
+pub place-back : (h : EvictionHeap) (p : ℕ) (e : Entry) (slot q : ℕ)
+    → heapOf (set (set (h .entries) p e) p (at h p)) (h .len) (set (set (h .positions) slot q) slot (posOf h slot)) ≡ h
+place-back h p e slot q = rw (set-set, set-getD, set-set, set-getD)
 
 -- the entry at p goes on to q, another place
 abbrev pub Goes : (EvictionHeap → ℕ → ℕ) → EvictionHeap → ℕ → ℕ → Type 0

@@ -52,7 +52,7 @@ module _ (t : State) (k : LoadToken) where
             publish-full m = rw (y, o, le-leb _ _ l, ← e, put, some-ltb _ z, eq-eqb _ _ m)
 
             pub publishes : (t .clean ≡ MAX → ⊥)
-                → told (withHeld (withHeap (withSlot t s (cleanSlot (k .key) (k .«access_sequence»))) h) (t .clean + 1) (t .loading - 1)) done ≡ publish t k
+                → publish t k ≡ told (withHeld (withHeap (withSlot t s (cleanSlot (k .key) (k .«access_sequence»))) h) (t .clean + 1) (t .loading - 1)) done
             unfolding publish
             publishes m = rw (y, o, le-leb _ _ l, ← e, put, some-ltb _ z, ne-eqb _ _ m)
 
@@ -78,6 +78,6 @@ module _ (t : State) (k : LoadToken) where
         abort-none z = rw (y, o, ← e, cut, no-ltb _ z)
 
         pub aborts : {v : Slot} → v ≡ vacantSlot → (t .loading ≡ 0 → ⊥)
-            → told (withHeld (withIndex (withSlot t s v) ix) (t .clean) (t .loading - 1)) done ≡ abort t k
+            → abort t k ≡ told (withHeld (withIndex (withSlot t s v) ix) (t .clean) (t .loading - 1)) done
         unfolding abort
         aborts v z = rw (v, y, o, ← e, cut, some-ltb _ z)

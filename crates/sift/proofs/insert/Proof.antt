@@ -1,11 +1,10 @@
 -- `sift::insert` meets its contract: the sift is that of the rule, and what a refused one leaves to take back is the entry, the length and the place. Assumes nothing.
 use mathlib.Core.Path.{sym, _∙_}
 use borrow.Author.Needs.{needs}
-use lib.Seq.{set-set, set-getD}
 use Rattle.basics.proofs.Tests.{tests}
 use Rattle.eviction.specs.Entries.{sized}
 use Rattle.eviction.specs.Heap.{insertHeap}
-use Rattle.sift.proofs.Cases.{moved-done, moved-refused, insert-goes}
+use Rattle.sift.proofs.Cases.{moved-done, moved-refused, place-back, insert-goes}
 use Rattle.sift.proofs.insert.Statement.{statement}
 use Rattle.sift.proofs.insert.Tie as tie
 
@@ -99,7 +98,7 @@ refused-requires-6 : tie.Need-refused-requires-6
 refused-requires-6 c κs = search needs
 
 returns-6 : tie.Need-returns-6
-returns-6 c = moved-refused _ _ (c .before .before .before .before .sift-up .ensures ∙ sym (insert-goes _ _ _ _ (c .before .before .before .before .before .before .before .before .before .before .before .if1 .left) (c .before .before .before .before .before .before .before .before .before .if3 .left) (c .before .before .before .before .before .before .before .if4 .left) (c .before .before .before .before .before .before .if5 .left))) (c .before .before .answer .given .1) (c .refused6 .ensures) (rw (set-set, set-getD, set-set, set-getD))
+returns-6 c = moved-refused _ _ (c .before .before .before .before .sift-up .ensures ∙ sym (insert-goes _ _ _ _ (c .before .before .before .before .before .before .before .before .before .before .before .if1 .left) (c .before .before .before .before .before .before .before .before .before .if3 .left) (c .before .before .before .before .before .before .before .if4 .left) (c .before .before .before .before .before .before .if5 .left))) (c .before .before .answer .given .1) (c .refused6 .ensures) (place-back _ _ _ _ _)
 
 enum-told : tie.Need-enum-told
 enum-told c = search needs

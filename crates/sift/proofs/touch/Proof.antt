@@ -1,11 +1,10 @@
 -- `sift::touch` meets its contract: the sift is that of the rule, and what a refused one leaves to take back is the entry. Assumes nothing.
 use mathlib.Core.Path.{sym, _∙_}
 use borrow.Author.Needs.{needs}
-use lib.Seq.{set-set, set-getD}
 use Rattle.basics.proofs.Tests.{tests}
 use Rattle.eviction.specs.Entries.{sized}
 use Rattle.eviction.specs.Heap.{placeOf, touchAt, touchHeap}
-use Rattle.sift.proofs.Cases.{moved-done, moved-refused, place-is, touch-goes}
+use Rattle.sift.proofs.Cases.{moved-done, moved-refused, entry-back, place-is, touch-goes}
 use Rattle.sift.proofs.touch.Statement.{statement}
 use Rattle.sift.proofs.touch.Tie as tie
 
@@ -94,7 +93,7 @@ refused-requires-7 : tie.Need-refused-requires-7
 refused-requires-7 c κs = search needs
 
 returns-7 : tie.Need-returns-7
-returns-7 c = moved-refused _ _ (c .before .before .before .before .sift-down .ensures ∙ sym (touch-goes _ _ _ _ (place-is _ _ _ (c .before .before .before .before .before .before .before .before .before .before .before .before .before .before .if1 .left) (c .before .before .before .before .before .before .before .before .before .before .before .before .before .if2 .left) (c .before .before .before .before .before .before .before .before .before .before .before .before .if3 .left) (c .before .before .before .before .before .before .before .before .before .before .if4 .left) (c .before .before .before .before .before .before .before .if5 .left)) (c .before .before .before .before .before .if6 .left))) (c .before .before .answer .given .1) (c .refused7 .ensures) (rw (set-set, set-getD))
+returns-7 c = moved-refused _ _ (c .before .before .before .before .sift-down .ensures ∙ sym (touch-goes _ _ _ _ (place-is _ _ _ (c .before .before .before .before .before .before .before .before .before .before .before .before .before .before .if1 .left) (c .before .before .before .before .before .before .before .before .before .before .before .before .before .if2 .left) (c .before .before .before .before .before .before .before .before .before .before .before .before .if3 .left) (c .before .before .before .before .before .before .before .before .before .before .if4 .left) (c .before .before .before .before .before .before .before .if5 .left)) (c .before .before .before .before .before .if6 .left))) (c .before .before .answer .given .1) (c .refused7 .ensures) (entry-back _ _ _)
 
 enum-told : tie.Need-enum-told
 enum-told c = search needs

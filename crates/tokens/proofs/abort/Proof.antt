@@ -1,5 +1,5 @@
 -- `tokens::abort` meets its contract: each return is an end of the rule. Assumes nothing.
-use mathlib.Core.Path.{_∙_}
+use mathlib.Core.Path.{sym, _∙_}
 use native.Mathlib.Omega.{arith}
 use Rattle.basics.proofs.Tests.{yes, no}
 use Rattle.state.specs.Parts.{vacate}
@@ -76,7 +76,7 @@ element-set-from-vacant : tie.Need-element-set-from-vacant
 element-set-from-vacant c = let f = sound-sizes (yes (c .before .before .before .before .before .before .before .before .before .before .before .before .before .before .sound .ensures) (c .before .before .before .before .before .before .before .before .before .before .before .before .before .if1 .left)) .small in let l = c .before .before .before .before .before .before .before .before .before .before .before .if2 .left in omega (arith, f, l)
 
 returns-6 : tie.Need-returns-6
-returns-6 c = aborts _ _ (yes (c .before .before .before .before .before .before .before .before .before .before .before .before .before .before .sound .ensures) (c .before .before .before .before .before .before .before .before .before .before .before .before .before .if1 .left)) (outstanding-in _ _ (c .before .before .before .before .before .before .before .before .before .before .before .before .wide .ensures) (c .before .before .before .before .before .before .before .before .before .before .before .if2 .left) ∙ yes (c .before .before .before .before .before .before .before .before .before .loads-for .ensures) (c .before .before .before .before .before .before .before .before .if3 .left)) (c .before .before .before .before .before .before .before .before .before .before .before .before .wide .ensures) (index-told _ (vacate _ _ _ _) (c .before .before .before .before .before .vacate .ensures) (c .before .before .before .enum-told .given .1)) (c .vacant-slot .ensures) (c .before .before .if4 .left)
+returns-6 c = sym (aborts _ _ (yes (c .before .before .before .before .before .before .before .before .before .before .before .before .before .before .sound .ensures) (c .before .before .before .before .before .before .before .before .before .before .before .before .before .if1 .left)) (outstanding-in _ _ (c .before .before .before .before .before .before .before .before .before .before .before .before .wide .ensures) (c .before .before .before .before .before .before .before .before .before .before .before .if2 .left) ∙ yes (c .before .before .before .before .before .before .before .before .before .loads-for .ensures) (c .before .before .before .before .before .before .before .before .if3 .left)) (c .before .before .before .before .before .before .before .before .before .before .before .before .wide .ensures) (index-told _ (vacate _ _ _ _) (c .before .before .before .before .before .vacate .ensures) (c .before .before .before .enum-told .given .1)) (c .vacant-slot .ensures) (c .before .before .if4 .left))
 
 pub abort-spec : {M : Type 1} → statement M
 abort-spec =

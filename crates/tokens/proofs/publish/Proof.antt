@@ -1,5 +1,5 @@
 -- `tokens::publish` meets its contract: each return is an end of the rule. Assumes nothing.
-use mathlib.Core.Path.{_∙_}
+use mathlib.Core.Path.{sym, _∙_}
 use native.Mathlib.Omega.{arith}
 use Rattle.basics.proofs.Tests.{yes, no}
 use Rattle.eviction.specs.Heap.{insertHeap}
@@ -88,7 +88,7 @@ element-set-from-t : tie.Need-element-set-from-t
 element-set-from-t c = let f = sound-sizes (yes (c .before .before .before .before .before .before .before .before .before .before .before .before .before .before .before .before .sound .ensures) (c .before .before .before .before .before .before .before .before .before .before .before .before .before .before .before .if1 .left)) .small in let l = c .before .before .before .before .before .before .before .before .before .before .before .before .before .if2 .left in omega (arith, f, l)
 
 returns-8 : tie.Need-returns-8
-returns-8 c = publishes _ _ (yes (c .before .before .before .before .before .before .before .before .before .before .before .before .before .before .before .before .sound .ensures) (c .before .before .before .before .before .before .before .before .before .before .before .before .before .before .before .if1 .left)) (outstanding-in _ _ (c .before .before .before .before .before .before .before .before .before .before .before .before .before .before .wide .ensures) (c .before .before .before .before .before .before .before .before .before .before .before .before .before .if2 .left) ∙ yes (c .before .before .before .before .before .before .before .before .before .before .before .loads-for .ensures) (c .before .before .before .before .before .before .before .before .before .before .if3 .left)) (c .before .before .before .before .before .before .before .before .if4 .left) (c .before .before .before .before .before .before .before .before .before .before .before .before .before .before .wide .ensures) (heap-told _ (insertHeap _ _ _ _) (c .before .before .before .before .before .before .insert .ensures) (c .before .before .before .before .enum-told .given .1)) (c .before .before .before .if5 .left) (c .before .before .if6 .left)
+returns-8 c = sym (publishes _ _ (yes (c .before .before .before .before .before .before .before .before .before .before .before .before .before .before .before .before .sound .ensures) (c .before .before .before .before .before .before .before .before .before .before .before .before .before .before .before .if1 .left)) (outstanding-in _ _ (c .before .before .before .before .before .before .before .before .before .before .before .before .before .before .wide .ensures) (c .before .before .before .before .before .before .before .before .before .before .before .before .before .if2 .left) ∙ yes (c .before .before .before .before .before .before .before .before .before .before .before .loads-for .ensures) (c .before .before .before .before .before .before .before .before .before .before .if3 .left)) (c .before .before .before .before .before .before .before .before .if4 .left) (c .before .before .before .before .before .before .before .before .before .before .before .before .before .before .wide .ensures) (heap-told _ (insertHeap _ _ _ _) (c .before .before .before .before .before .before .insert .ensures) (c .before .before .before .before .enum-told .given .1)) (c .before .before .before .if5 .left) (c .before .before .if6 .left))
 
 pub publish-spec : {M : Type 1} → statement M
 publish-spec =

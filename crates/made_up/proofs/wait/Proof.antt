@@ -1,0 +1,92 @@
+-- `made_up::wait` meets its contract. The invariant: bytes go to places in front of them, within the list. Assumes nothing.
+use Prim.Native.Nat.{_-_, _≤_}
+use mathlib.Core.Path.{_≡_}
+use lib.ListN.{length}
+use borrow.Author.Needs.{needs}
+use Rattle.made_up.proofs.wait.Statement.{statement}
+use Rattle.made_up.proofs.wait.Tie as tie
+
+abbrev Inv-loop : tie.InvT-loop
+Inv-loop bytes₀ from end have at₀ to₀ bytes at to = (to ≤ at) × (to ≤ have) × (length bytes ≡ length bytes₀)
+
+abbrev μ-loop : tie.MeasureT-loop
+μ-loop bytes₀ from end have at₀ to₀ bytes at to = have - at
+
+least-requires : tie.Need-least-requires Inv-loop μ-loop
+least-requires c κs = search needs
+
+least-requires-2 : tie.Need-least-requires-2 Inv-loop μ-loop
+least-requires-2 c κs = search needs
+
+sub-if1 : tie.Need-sub-if1 Inv-loop μ-loop
+sub-if1 c = search needs
+
+returns : tie.Need-returns Inv-loop μ-loop
+returns c = search needs
+
+loop-holds : tie.Need-loop-holds Inv-loop μ-loop
+loop-holds c = search needs
+
+slice-read-bytes : tie.Need-slice-read-bytes Inv-loop μ-loop
+slice-read-bytes c = search needs
+
+slice-write-bytes : tie.Need-slice-write-bytes Inv-loop μ-loop
+slice-write-bytes c = search needs
+
+add-at : tie.Need-add-at Inv-loop μ-loop
+add-at c = search needs
+
+add-to : tie.Need-add-to Inv-loop μ-loop
+add-to c = search needs
+
+loop-less : tie.Need-loop-less Inv-loop μ-loop
+loop-less c = search needs
+
+loop-again : tie.Need-loop-again Inv-loop μ-loop
+loop-again c = search needs
+
+sub-read-full : tie.Need-sub-read-full Inv-loop μ-loop
+sub-read-full c = search needs
+
+part-read-full-start : tie.Need-part-read-full-start Inv-loop μ-loop
+part-read-full-start c = search needs
+
+part-read-full-end : tie.Need-part-read-full-end Inv-loop μ-loop
+part-read-full-end c = search needs
+
+read-full-requires : tie.Need-read-full-requires Inv-loop μ-loop
+read-full-requires c κs = search needs
+
+add-t17 : tie.Need-add-t17 Inv-loop μ-loop
+add-t17 c = search needs
+
+same-length : tie.Need-same-length Inv-loop μ-loop
+same-length c = search needs
+
+returns-2 : tie.Need-returns-2 Inv-loop μ-loop
+returns-2 c = search needs
+
+pub wait-spec : {M : Type 1} → statement M
+wait-spec =
+    tie.close
+    (tie.spec
+    Inv-loop
+    μ-loop
+    least-requires
+    least-requires-2
+    sub-if1
+    returns
+    loop-holds
+    slice-read-bytes
+    slice-write-bytes
+    add-at
+    add-to
+    loop-less
+    loop-again
+    sub-read-full
+    part-read-full-start
+    part-read-full-end
+    read-full-requires
+    add-t17
+    same-length
+    returns-2)
