@@ -1,0 +1,23 @@
+-- `sheettext::counts_as` meets its contract. Assumes nothing.
+use Rattle.basics.proofs.Tests.{flag}
+use Rattle.sheettext.specs.Parse.{countsAs}
+use borrow.Author.Needs.{needs}
+use Rattle.sheettext.proofs.counts_as.Statement.{statement}
+use Rattle.sheettext.proofs.counts_as.Tie as tie
+use Rattle.sheettext.proofs.counts_as.Reads as reads
+use Rattle.sheettext.proofs.counts_as.Lts as lts
+use Rattle.sheettext.proofs.is_blank.Reads as is-blank-reads
+
+is-blank-requires : tie.Need-is-blank-requires
+is-blank-requires c κs = search needs
+
+returns : tie.Need-returns
+unfolding countsAs
+returns c = rw (flag (c .before .is-blank .ensures) (c .if1 .taken))
+
+returns-2 : tie.Need-returns-2
+unfolding countsAs
+returns-2 c = rw (flag (c .before .is-blank .ensures) (c .if1 .left))
+
+pub counts-as-spec : {M : Type 1} → statement M
+counts-as-spec = tie.close (tie.spec is-blank-requires returns returns-2)

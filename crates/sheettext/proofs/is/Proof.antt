@@ -1,0 +1,17 @@
+-- `sheettext::is` meets its contract. Assumes nothing.
+use Rattle.sheettext.proofs.Laws.{same-means}
+use borrow.Author.Needs.{needs}
+use Rattle.sheettext.proofs.is.Statement.{statement}
+use Rattle.sheettext.proofs.is.Tie as tie
+use Rattle.sheettext.proofs.is.Reads as reads
+use Rattle.sheettext.proofs.is.Lts as lts
+use Rattle.check.proofs.same.Reads as same-reads
+
+same-requires : tie.Need-same-requires
+same-requires c κs = search needs
+
+returns : tie.Need-returns
+returns c = same-means (c .same .result) _ _ (c .same .ensures .0) (c .same .ensures .1)
+
+pub is-spec : {M : Type 1} → statement M
+is-spec = tie.close (tie.spec same-requires returns)

@@ -1,0 +1,22 @@
+-- `sheettext::is_blank` meets its contract. Assumes nothing.
+use Rattle.basics.proofs.Tests.{tests}
+use Rattle.sheettext.specs.Parse.{isBlank}
+use Rattle.sheettext.proofs.is_blank.Statement.{statement}
+use Rattle.sheettext.proofs.is_blank.Tie as tie
+use Rattle.sheettext.proofs.is_blank.Reads as reads
+use Rattle.sheettext.proofs.is_blank.Lts as lts
+
+returns : tie.Need-returns
+unfolding isBlank
+returns c = search tests
+
+returns-2 : tie.Need-returns-2
+unfolding isBlank
+returns-2 c = search tests
+
+returns-3 : tie.Need-returns-3
+unfolding isBlank
+returns-3 c = search tests
+
+pub is-blank-spec : {M : Type 1} → statement M
+is-blank-spec = tie.close (tie.spec returns returns-2 returns-3)

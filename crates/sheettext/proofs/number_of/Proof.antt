@@ -1,0 +1,94 @@
+-- `sheettext::number_of` meets its contract. The invariant: what the digits that are left make of the number so far is the number of the word. Assumes nothing.
+use mathlib.Core.Path.{sym, _∙_}
+use Rattle.sheettext.proofs.Laws.{digit-low, digit-high, digit-large, digit-goes, digits-end}
+use native.Mathlib.Omega.{arith}
+use borrow.Author.Needs.{needs}
+use Rattle.basics.proofs.Tests.{tests}
+use Prim.Native.Nat.{_-_, _≤_}
+use mathlib.Core.Path.{_≡_}
+use lib.ListN.{length, drop}
+use Rattle.sheettext.specs.Parse.{numberFrom, numberOf}
+use Rattle.sheettext.proofs.number_of.Statement.{statement}
+use Rattle.sheettext.proofs.number_of.Tie as tie
+use Rattle.sheettext.proofs.number_of.Reads as reads
+use Rattle.sheettext.proofs.number_of.Lts as lts
+use Rattle.sheettext.proofs.wide.Reads as wide-reads
+
+abbrev Inv-loop : tie.InvT-loop
+Inv-loop word n₀ i₀ n i = (i ≤ length word) × (numberFrom n (drop i word) ≡ numberOf word)
+
+abbrev μ-loop : tie.MeasureT-loop
+μ-loop word n₀ i₀ n i = length word - i
+
+returns : tie.Need-returns Inv-loop μ-loop
+unfolding numberOf
+returns c = search tests
+
+loop-holds : tie.Need-loop-holds Inv-loop μ-loop
+unfolding numberOf
+loop-holds c = (omega arith, search tests)
+
+shared-slice-read-wide : tie.Need-shared-slice-read-wide Inv-loop μ-loop
+shared-slice-read-wide c = search needs
+
+wide-requires : tie.Need-wide-requires Inv-loop μ-loop
+wide-requires c κs = search needs
+
+returns-2 : tie.Need-returns-2 Inv-loop μ-loop
+returns-2 c = sym (digit-low (c .before .before .before .before .before .before .before .args .word .now) (c .before .before .before .before .loop .n) (c .before .before .before .before .loop .i) (omega arith) (omega arith)) ∙ c .before .before .before .before .loop .inv .1
+
+returns-3 : tie.Need-returns-3 Inv-loop μ-loop
+returns-3 c = sym (digit-high (c .before .before .before .before .before .before .before .before .args .word .now) (c .before .before .before .before .before .loop .n) (c .before .before .before .before .before .loop .i) (omega arith) (omega arith) (omega arith)) ∙ c .before .before .before .before .before .loop .inv .1
+
+returns-4 : tie.Need-returns-4 Inv-loop μ-loop
+returns-4 c = sym (digit-large (c .before .before .before .before .before .before .before .before .before .args .word .now) (c .before .before .before .before .before .before .loop .n) (c .before .before .before .before .before .before .loop .i) (omega arith) (omega arith) (omega arith) (omega arith)) ∙ c .before .before .before .before .before .before .loop .inv .1
+
+mul-if5 : tie.Need-mul-if5 Inv-loop μ-loop
+mul-if5 c = search needs
+
+sub-if5 : tie.Need-sub-if5 Inv-loop μ-loop
+sub-if5 c = search needs
+
+returns-5 : tie.Need-returns-5 Inv-loop μ-loop
+returns-5 c = sym (digit-large (c .before .before .before .before .before .before .before .before .before .before .args .word .now) (c .before .before .before .before .before .before .before .loop .n) (c .before .before .before .before .before .before .before .loop .i) (omega arith) (omega arith) (omega arith) (omega arith)) ∙ c .before .before .before .before .before .before .before .loop .inv .1
+
+mul-n : tie.Need-mul-n Inv-loop μ-loop
+mul-n c = search needs
+
+add-n : tie.Need-add-n Inv-loop μ-loop
+add-n c = search needs
+
+add-i : tie.Need-add-i Inv-loop μ-loop
+add-i c = search needs
+
+loop-less : tie.Need-loop-less Inv-loop μ-loop
+loop-less c = search needs
+
+loop-again : tie.Need-loop-again Inv-loop μ-loop
+loop-again c = (omega arith, rw (c .before .before .before .before .wide .ensures .0) (sym (digit-goes (c .before .before .before .before .before .before .before .before .before .before .args .word .now) (c .before .before .before .before .before .before .before .loop .n) (c .before .before .before .before .before .before .before .loop .i) (omega arith) (omega arith) (omega arith) (omega arith)) ∙ c .before .before .before .before .before .before .before .loop .inv .1))
+
+returns-6 : tie.Need-returns-6 Inv-loop μ-loop
+returns-6 c = sym (digits-end (c .before .before .before .before .args .word .now) (c .before .loop .n) (c .before .loop .i) (omega arith)) ∙ c .before .loop .inv .1
+
+pub number-of-spec : {M : Type 1} → statement M
+number-of-spec =
+    tie.close
+    (tie.spec
+    Inv-loop
+    μ-loop
+    returns
+    loop-holds
+    shared-slice-read-wide
+    wide-requires
+    returns-2
+    returns-3
+    returns-4
+    mul-if5
+    sub-if5
+    returns-5
+    mul-n
+    add-n
+    add-i
+    loop-less
+    loop-again
+    returns-6)

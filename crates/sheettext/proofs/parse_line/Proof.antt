@@ -1,0 +1,30 @@
+-- `sheettext::parse_line` meets its contract. Assumes nothing.
+use mathlib.Core.Path.{sym, _∙_, ap}
+use lib.ListN.{take}
+use lib.Seq.{length-take-le}
+use Rattle.sheettext.specs.Parse.{textSays, lineSays}
+use Rattle.sheettext.proofs.Laws.{found-at}
+use borrow.Author.Needs.{needs}
+use Rattle.sheettext.proofs.parse_line.Statement.{statement}
+use Rattle.sheettext.proofs.parse_line.Tie as tie
+use Rattle.sheettext.proofs.parse_line.Reads as reads
+use Rattle.sheettext.proofs.parse_line.Lts as lts
+use Rattle.bytes.proofs.scan.find.Reads as find-reads
+use Rattle.sheettext.proofs.text_says.Reads as text-says-reads
+
+find-requires : tie.Need-find-requires
+find-requires c κs = search needs
+
+slice-aggregate-text-says : tie.Need-slice-aggregate-text-says
+slice-aggregate-text-says c = sym (length-take-le (c .before .find .result) (c .before .before .before .args .line .now) (c .before .find .ensures .1))
+
+text-says-requires : tie.Need-text-says-requires
+text-says-requires c κs = search needs
+
+returns : tie.Need-returns
+unfolding lineSays
+returns c = (c .text-says .ensures .0 ∙ ap (λ k. textSays (take k (c .before .before .before .before .args .line .now))) (found-at 35 (c .before .before .before .before .args .line .now) (c .before .before .find .result) (c .before .before .find .ensures .0)), c .text-says .ensures .1)
+
+pub parse-line-spec : {M : Type 1} → statement M
+parse-line-spec =
+    tie.close (tie.spec find-requires slice-aggregate-text-says text-says-requires returns)

@@ -1,0 +1,58 @@
+-- The line of text that a record is shown as: the call's word with its number, then every field that is not what is usual, by its name.
+use Prim.Native.Nat.{ℕ, zero, suc}
+use mathlib.Core.Bool.{Bool, true, false}
+use mathlib.Core.List.{List, [], _∷_, _++_}
+use lib.Dec.{eqb}
+use lib.ListN.{length, take, drop}
+use Rattle.basics.specs.Try.{if_then_else_}
+use Rattle.lines.specs.declared.Record.{Record}
+use Rattle.lines.specs.declared.Read.{Read}
+use Rattle.lines.specs.Record.{readRecord}
+use Rattle.lines.specs.Text.{bytesOf, decimal, NEWLINE}
+use Rattle.sheettext.specs.declared.Text.{Text}
+use Rattle.sheettext.specs.Good.{bitOf}
+
+-- the text in the code's list of bytes
+abbrev pub textOf : Text → List ℕ
+textOf t = take (t .len) (t .bytes)
+
+-- a field with its name, where it is not what is usual
+unfoldable pub fieldText : List ℕ → ℕ → ℕ → List ℕ
+fieldText name value usual = if eqb value usual then [] else name ++ decimal value
+
+-- the word; new, remove, pin, unpin, resize and reclaim always show their number
+unfoldable pub callText : Record → List ℕ
+callText r =
+    if eqb (r .code) 1 then bytesOf "new " ++ decimal (r .number) else
+    if eqb (r .code) 2 then bytesOf "access" ++ fieldText (bytesOf " number=") (r .number) 0 else
+    if eqb (r .code) 3 then bytesOf "publish" ++ fieldText (bytesOf " number=") (r .number) 0 else
+    if eqb (r .code) 4 then bytesOf "abort" ++ fieldText (bytesOf " number=") (r .number) 0 else
+    if eqb (r .code) 5 then bytesOf "lookup" ++ fieldText (bytesOf " number=") (r .number) 0 else
+    if eqb (r .code) 6 then bytesOf "remove slot=" ++ decimal (r .number) else
+    if eqb (r .code) 7 then (if r .allow then bytesOf "pin slot=" ++ decimal (r .number) else bytesOf "unpin slot=" ++ decimal (r .number)) else
+    if eqb (r .code) 8 then bytesOf "resize " ++ decimal (r .number) else
+    if eqb (r .code) 9 then bytesOf "reclaim " ++ decimal (r .number) else
+    bytesOf "?"
+
+-- what allow is where the line does not say it: 1 for an access, and the word says it of a pin
+unfoldable pub usualAllow : Record → Bool
+usualAllow r = if eqb (r .code) 2 then true else if eqb (r .code) 7 then r .allow else false
+
+unfoldable pub shown : Record → List ℕ
+shown r =
+    callText r
+    ++ fieldText (bytesOf " file=") (r .key .file) 0
+    ++ fieldText (bytesOf " kind=") (r .key .kind) 0
+    ++ fieldText (bytesOf " index=") (r .key .index) 0
+    ++ fieldText (bytesOf " allow=") (bitOf (r .allow)) (bitOf (usualAllow r))
+    ++ fieldText (bytesOf " place=") (r .place) 0
+    ++ NEWLINE ∷ []
+
+-- the lines of some records, up to the first that is bad, and of at most so many
+abbrev pub lineBefore : Read → List ℕ → List ℕ
+lineBefore (Read.Whole r) more = shown r ++ more
+lineBefore Read.Bad more = []
+
+unfoldable pub listedText : ℕ → List ℕ → List ℕ
+listedText zero bytes = []
+listedText (suc left) bytes = if eqb (length bytes) 0 then [] else lineBefore (readRecord bytes) (listedText left (drop 24 bytes))
