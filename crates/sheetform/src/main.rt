@@ -36,12 +36,13 @@ fn say_wrong(before: u64, wrong: u8) {
     }
 }
 
-// What a block came to: the line that has begun, or the number of the next record, and whether another block follows.
+// What a block of text came to: the line that has begun, and whether another block follows.
 struct Block {
     reading: Reading,
     next: bool,
 }
 
+// What a block of records came to: the number of the next record, and whether another block follows.
 struct Numbered {
     number: u64,
     next: bool,

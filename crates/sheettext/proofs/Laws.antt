@@ -1,4 +1,5 @@
--- Laws of the text form, each end of a rule on plain variables: the bytes of a record, a run of blanks, a number's digits, equal words.
+-- Laws of the text form, each end of a rule on plain variables: the bytes of a record, bytes put behind a text, runs of blanks, numbers, words, the
+-- words of a line, the lines of records.
 -- Assumes nothing.
 use Prim.Native.Nat.{ℕ, zero, suc, _+_, _-_, _*_, _/_, _%_, _≤_, _<_}
 use native.Mathlib.Omega.{arith}
@@ -10,7 +11,7 @@ use lib.Dec.{eqb, ltb, leb}
 use lib.ListN.{length, take, drop, set, getD, drop-of-length-le, length-drop}
 use lib.Seq.{drop-cons, take-suc, take-suc-set, take-all, take-length, drop-drop}
 use borrow.Author.Tests.{lt-ltb, le-ltb, le-leb, lt-leb, eq-eqb, ne-eqb, eqb-true}
-use Rattle.basics.specs.Try.{Try, ok, refuse, if_then_else_}
+use Rattle.basics.specs.Try.{ok, refuse, if_then_else_}
 use Rattle.basics.proofs.Tests.{Is, is, yes!, no!, false-true, and-left, and-right}
 use Rattle.bytes.specs.Bytes.{indexOf, slice}
 use Rattle.lines.specs.declared.Record.{Record}

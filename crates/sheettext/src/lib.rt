@@ -2,7 +2,7 @@
 ghost use mathlib.Core.Path.{_≡_};
 ghost use mathlib.Core.Bool.{true};
 ghost use mathlib.Core.List.{_++_};
-ghost use Prim.Native.Nat.{_+_, _/_, _%_, _≤_, _<_, _^_};
+ghost use Prim.Native.Nat.{_+_, _/_, _%_, _≤_, _<_};
 ghost use lib.ListN.{length, take, drop};
 ghost use Rattle.basics.specs.Try.{if_then_else_};
 ghost use Rattle.lines.specs.declared.Read.{Read};
@@ -655,23 +655,23 @@ fn take_byte(reading: Reading, byte: u8, out: &mut [u8], at: usize) -> Turned
     let mut line = reading.line;
     let len = reading.len;
     if LINE < len {
-        return so_far_is(line, len, reading.before, at, LONG);
+        return outcome(line, len, reading.before, at, LONG);
     }
     if byte == b'\n' {
         let added = add_line(&line[..len], out, at);
         if 0 < added.wrong {
-            return so_far_is(line, len, reading.before, added.written, added.wrong);
+            return outcome(line, len, reading.before, added.written, added.wrong);
         }
-        return so_far_is(line, 0, basics::one_more(reading.before), added.written, 0);
+        return outcome(line, 0, basics::one_more(reading.before), added.written, 0);
     }
     if len == LINE {
-        return so_far_is(line, len, reading.before, at, LONG);
+        return outcome(line, len, reading.before, at, LONG);
     }
     line[len] = byte;
-    so_far_is(line, len + 1, reading.before, at, 0)
+    outcome(line, len + 1, reading.before, at, 0)
 }
 
-fn so_far_is(line: [u8; 256], len: usize, before: u64, written: usize, wrong: u8) -> Turned
+fn outcome(line: [u8; 256], len: usize, before: u64, written: usize, wrong: u8) -> Turned
     ensures { λ r. ⌜ r .written ≡ written ⌝ }
 {
     let reading = Reading {

@@ -4,14 +4,6 @@ use lib.Seq.{length-take-le}
 use borrow.Author.Needs.{needs}
 use Rattle.sheetform.proofs.record_block.Statement.{statement}
 use Rattle.sheetform.proofs.record_block.Tie as tie
-use Rattle.sheetform.proofs.record_block.Reads as reads
-use Rattle.sheetform.proofs.record_block.Lts as lts
-use Rattle.io.proofs.read_full.Reads as read-full-reads
-use Rattle.io.proofs.write_all.Reads as write-all-reads
-use Rattle.sheetform.proofs.say.Reads as say-reads
-use Rattle.sheetform.proofs.say_number.Reads as say-number-reads
-use Rattle.sheettext.proofs.text_of.Reads as text-of-reads
-use Rattle.std.proofs.num.wrapping_add_u64.Reads as wrapping-add-u64-reads
 
 slice-aggregate-read-full : tie.Need-slice-aggregate-read-full
 slice-aggregate-read-full c = search needs

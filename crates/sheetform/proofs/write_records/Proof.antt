@@ -2,9 +2,6 @@
 use native.Mathlib.Omega.{arith}
 use Rattle.sheetform.proofs.write_records.Statement.{statement}
 use Rattle.sheetform.proofs.write_records.Tie as tie
-use Rattle.sheetform.proofs.write_records.Reads as reads
-use Rattle.sheetform.proofs.write_records.Lts as lts
-use Rattle.sheetform.proofs.text_block.Reads as text-block-reads
 
 abbrev Inv-loop : tie.InvT-loop
 Inv-loop reading₀ blocks₀ reading blocks = Unit {0}

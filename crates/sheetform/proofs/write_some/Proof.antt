@@ -4,11 +4,6 @@ use lib.Seq.{length-take-le}
 use borrow.Author.Needs.{needs}
 use Rattle.sheetform.proofs.write_some.Statement.{statement}
 use Rattle.sheetform.proofs.write_some.Tie as tie
-use Rattle.sheetform.proofs.write_some.Reads as reads
-use Rattle.sheetform.proofs.write_some.Lts as lts
-use Rattle.io.proofs.write_all.Reads as write-all-reads
-use Rattle.sheetform.proofs.say_wrong.Reads as say-wrong-reads
-use Rattle.sheettext.proofs.records_of.Reads as records-of-reads
 
 slice-aggregate-records-of : tie.Need-slice-aggregate-records-of
 slice-aggregate-records-of c = search needs

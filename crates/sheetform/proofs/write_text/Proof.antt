@@ -2,9 +2,6 @@
 use native.Mathlib.Omega.{arith}
 use Rattle.sheetform.proofs.write_text.Statement.{statement}
 use Rattle.sheetform.proofs.write_text.Tie as tie
-use Rattle.sheetform.proofs.write_text.Reads as reads
-use Rattle.sheetform.proofs.write_text.Lts as lts
-use Rattle.sheetform.proofs.record_block.Reads as record-block-reads
 
 abbrev Inv-loop : tie.InvT-loop
 Inv-loop number₀ blocks₀ number blocks = Unit {0}

@@ -7,10 +7,6 @@ use Rattle.sheettext.specs.Parse.{callOf}
 use borrow.Author.Needs.{needs}
 use Rattle.sheettext.proofs.call_of.Statement.{statement}
 use Rattle.sheettext.proofs.call_of.Tie as tie
-use Rattle.sheettext.proofs.call_of.Reads as reads
-use Rattle.sheettext.proofs.call_of.Lts as lts
-use Rattle.sheettext.proofs.is.Reads as is-reads
-use Rattle.sheettext.proofs.plain.Reads as plain-reads
 
 slice-aggregate-is : tie.Need-slice-aggregate-is
 slice-aggregate-is c = search needs

@@ -4,9 +4,6 @@ use Rattle.sheettext.specs.Parse.{countsAs}
 use borrow.Author.Needs.{needs}
 use Rattle.sheettext.proofs.counts_as.Statement.{statement}
 use Rattle.sheettext.proofs.counts_as.Tie as tie
-use Rattle.sheettext.proofs.counts_as.Reads as reads
-use Rattle.sheettext.proofs.counts_as.Lts as lts
-use Rattle.sheettext.proofs.is_blank.Reads as is-blank-reads
 
 is-blank-requires : tie.Need-is-blank-requires
 is-blank-requires c κs = search needs

@@ -1,19 +1,13 @@
 -- `sheettext::digits` meets its contract. The invariant: the digits still to be put in front of what stands are those of the whole number. Assumes nothing.
-use Prim.Native.Nat.{_%_}
-use mathlib.Core.Path.{refl, sym, _∙_}
-use lib.ListN.{length-set}
-use Rattle.lines.specs.Text.{digit, decimal}
+use Prim.Native.Nat.{_%_, _≤_}
+use mathlib.Core.Path.{refl, sym, _∙_, _≡_}
+use lib.ListN.{length-set, length, drop}
+use Rattle.lines.specs.Text.{digit, decimal, digitsFrom}
 use Rattle.lines.proofs.Bytes.{front-at, last-digit, more-digits, no-digits}
 use native.Mathlib.Omega.{arith}
 use borrow.Author.Needs.{needs}
-use Prim.Native.Nat.{_≤_}
-use mathlib.Core.Path.{_≡_}
-use lib.ListN.{length, drop}
-use Rattle.lines.specs.Text.{digitsFrom}
 use Rattle.sheettext.proofs.digits.Statement.{statement}
 use Rattle.sheettext.proofs.digits.Tie as tie
-use Rattle.sheettext.proofs.digits.Reads as reads
-use Rattle.sheettext.proofs.digits.Lts as lts
 
 abbrev Inv-loop : tie.InvT-loop
 Inv-loop number bytes₀ n₀ from₀ bytes n from = (from ≤ 20) × (length bytes ≡ 20) × (digitsFrom from n (drop from bytes) ≡ digitsFrom 20 number (drop 20 bytes₀))

@@ -3,9 +3,6 @@ use Rattle.sheettext.proofs.Laws.{same-means}
 use borrow.Author.Needs.{needs}
 use Rattle.sheettext.proofs.is.Statement.{statement}
 use Rattle.sheettext.proofs.is.Tie as tie
-use Rattle.sheettext.proofs.is.Reads as reads
-use Rattle.sheettext.proofs.is.Lts as lts
-use Rattle.check.proofs.same.Reads as same-reads
 
 same-requires : tie.Need-same-requires
 same-requires c κs = search needs

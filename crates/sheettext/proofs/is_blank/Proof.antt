@@ -3,8 +3,6 @@ use Rattle.basics.proofs.Tests.{tests}
 use Rattle.sheettext.specs.Parse.{isBlank}
 use Rattle.sheettext.proofs.is_blank.Statement.{statement}
 use Rattle.sheettext.proofs.is_blank.Tie as tie
-use Rattle.sheettext.proofs.is_blank.Reads as reads
-use Rattle.sheettext.proofs.is_blank.Lts as lts
 
 returns : tie.Need-returns
 unfolding isBlank

@@ -4,9 +4,6 @@ use native.Mathlib.Omega.{arith}
 use borrow.Author.Needs.{needs}
 use Rattle.sheettext.proofs.low_4.Statement.{statement}
 use Rattle.sheettext.proofs.low_4.Tie as tie
-use Rattle.sheettext.proofs.low_4.Reads as reads
-use Rattle.sheettext.proofs.low_4.Lts as lts
-use Rattle.sheettext.proofs.low.Reads as low-reads
 
 low-requires : tie.Need-low-requires
 low-requires c κs = search needs

@@ -9,9 +9,6 @@ use Rattle.sheettext.proofs.Laws.{all-from, part-length, size-at}
 use borrow.Author.Needs.{needs}
 use Rattle.sheettext.proofs.next_word.Statement.{statement}
 use Rattle.sheettext.proofs.next_word.Tie as tie
-use Rattle.sheettext.proofs.next_word.Reads as reads
-use Rattle.sheettext.proofs.next_word.Lts as lts
-use Rattle.sheettext.proofs.run_of.Reads as run-of-reads
 
 sub-run-of : tie.Need-sub-run-of
 sub-run-of c = search needs

@@ -1,18 +1,14 @@
 -- `sheettext::number_of` meets its contract. The invariant: what the digits that are left make of the number so far is the number of the word. Assumes nothing.
-use mathlib.Core.Path.{sym, _∙_}
+use mathlib.Core.Path.{sym, _∙_, _≡_}
 use Rattle.sheettext.proofs.Laws.{digit-low, digit-high, digit-large, digit-goes, digits-end}
 use native.Mathlib.Omega.{arith}
 use borrow.Author.Needs.{needs}
 use Rattle.basics.proofs.Tests.{tests}
 use Prim.Native.Nat.{_-_, _≤_}
-use mathlib.Core.Path.{_≡_}
 use lib.ListN.{length, drop}
 use Rattle.sheettext.specs.Parse.{numberFrom, numberOf}
 use Rattle.sheettext.proofs.number_of.Statement.{statement}
 use Rattle.sheettext.proofs.number_of.Tie as tie
-use Rattle.sheettext.proofs.number_of.Reads as reads
-use Rattle.sheettext.proofs.number_of.Lts as lts
-use Rattle.sheettext.proofs.wide.Reads as wide-reads
 
 abbrev Inv-loop : tie.InvT-loop
 Inv-loop word n₀ i₀ n i = (i ≤ length word) × (numberFrom n (drop i word) ≡ numberOf word)

@@ -7,10 +7,6 @@ use Rattle.sheettext.proofs.Laws.{found-at}
 use borrow.Author.Needs.{needs}
 use Rattle.sheettext.proofs.parse_line.Statement.{statement}
 use Rattle.sheettext.proofs.parse_line.Tie as tie
-use Rattle.sheettext.proofs.parse_line.Reads as reads
-use Rattle.sheettext.proofs.parse_line.Lts as lts
-use Rattle.bytes.proofs.scan.find.Reads as find-reads
-use Rattle.sheettext.proofs.text_says.Reads as text-says-reads
 
 find-requires : tie.Need-find-requires
 find-requires c κs = search needs

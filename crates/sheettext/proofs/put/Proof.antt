@@ -1,19 +1,14 @@
 -- `sheettext::put` meets its contract. The invariant: the text, and what was passed of the word behind it. Assumes nothing.
-use mathlib.Core.Path.{sym, ap, _∙_}
-use mathlib.Core.List.{append-nil}
-use lib.ListN.{length-set}
+use mathlib.Core.Path.{sym, ap, _∙_, _≡_}
+use mathlib.Core.List.{append-nil, _++_}
+use lib.ListN.{length-set, length, take}
 use lib.Seq.{take-length}
 use Rattle.sheettext.proofs.Laws.{put-step}
 use native.Mathlib.Omega.{arith}
 use borrow.Author.Needs.{needs}
 use Prim.Native.Nat.{_+_, _-_, _≤_}
-use mathlib.Core.Path.{_≡_}
-use mathlib.Core.List.{_++_}
-use lib.ListN.{length, take}
 use Rattle.sheettext.proofs.put.Statement.{statement}
 use Rattle.sheettext.proofs.put.Tie as tie
-use Rattle.sheettext.proofs.put.Reads as reads
-use Rattle.sheettext.proofs.put.Lts as lts
 
 abbrev Inv-loop : tie.InvT-loop
 Inv-loop word bytes₀ len i₀ bytes i = (i ≤ length word) × (length bytes ≡ 192) × (take (len + i) bytes ≡ take len bytes₀ ++ take i word)

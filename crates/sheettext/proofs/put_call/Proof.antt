@@ -7,11 +7,6 @@ use Rattle.sheettext.specs.Form.{callText}
 use borrow.Author.Needs.{needs}
 use Rattle.sheettext.proofs.put_call.Statement.{statement}
 use Rattle.sheettext.proofs.put_call.Tie as tie
-use Rattle.sheettext.proofs.put_call.Reads as reads
-use Rattle.sheettext.proofs.put_call.Lts as lts
-use Rattle.sheettext.proofs.put.Reads as put-reads
-use Rattle.sheettext.proofs.put_field.Reads as put-field-reads
-use Rattle.sheettext.proofs.put_number.Reads as put-number-reads
 
 slice-aggregate-put : tie.Need-slice-aggregate-put
 slice-aggregate-put c = search needs

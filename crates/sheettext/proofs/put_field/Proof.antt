@@ -9,10 +9,6 @@ use Rattle.sheettext.specs.Form.{fieldText}
 use borrow.Author.Needs.{needs}
 use Rattle.sheettext.proofs.put_field.Statement.{statement}
 use Rattle.sheettext.proofs.put_field.Tie as tie
-use Rattle.sheettext.proofs.put_field.Reads as reads
-use Rattle.sheettext.proofs.put_field.Lts as lts
-use Rattle.sheettext.proofs.put.Reads as put-reads
-use Rattle.sheettext.proofs.put_number.Reads as put-number-reads
 
 returns : tie.Need-returns
 unfolding fieldText

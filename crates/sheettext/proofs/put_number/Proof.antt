@@ -4,10 +4,6 @@ use Rattle.sheettext.proofs.Laws.{all-from, part-length}
 use borrow.Author.Needs.{needs}
 use Rattle.sheettext.proofs.put_number.Statement.{statement}
 use Rattle.sheettext.proofs.put_number.Tie as tie
-use Rattle.sheettext.proofs.put_number.Reads as reads
-use Rattle.sheettext.proofs.put_number.Lts as lts
-use Rattle.sheettext.proofs.digits.Reads as digits-reads
-use Rattle.sheettext.proofs.put.Reads as put-reads
 
 digits-requires : tie.Need-digits-requires
 digits-requires c κs = search needs

@@ -6,9 +6,6 @@ use mathlib.Core.Path.{_≡_, refl, _∙_}
 use lib.ListN.{length}
 use Rattle.sheettext.proofs.records_of.Statement.{statement}
 use Rattle.sheettext.proofs.records_of.Tie as tie
-use Rattle.sheettext.proofs.records_of.Reads as reads
-use Rattle.sheettext.proofs.records_of.Lts as lts
-use Rattle.sheettext.proofs.take_byte.Reads as take-byte-reads
 
 abbrev Inv-loop : tie.InvT-loop
 Inv-loop text out₀ so-far₀ written₀ i₀ out so-far written i = (length out ≡ length out₀) × (written ≤ length out₀) × (i ≤ length text)

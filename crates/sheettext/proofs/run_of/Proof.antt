@@ -2,16 +2,13 @@
 use native.Mathlib.Omega.{arith}
 use borrow.Author.Needs.{needs}
 use Prim.Native.Nat.{_+_, _-_, _≤_}
-use mathlib.Core.Path.{_≡_, refl}
+use mathlib.Core.Path.{_≡_}
 use lib.ListN.{length, drop}
 use Rattle.basics.proofs.Tests.{yes, no}
 use Rattle.sheettext.specs.Parse.{runOf}
 use Rattle.sheettext.proofs.Laws.{run-goes, run-stops, run-ends}
 use Rattle.sheettext.proofs.run_of.Statement.{statement}
 use Rattle.sheettext.proofs.run_of.Tie as tie
-use Rattle.sheettext.proofs.run_of.Reads as reads
-use Rattle.sheettext.proofs.run_of.Lts as lts
-use Rattle.sheettext.proofs.counts_as.Reads as counts-as-reads
 
 abbrev Inv-loop : tie.InvT-loop
 Inv-loop blank text i₀ i = (i ≤ length text) × (i + runOf blank (drop i text) ≡ runOf blank text)

@@ -1,18 +1,10 @@
 -- `sheettext::show_record` meets its contract. Assumes nothing.
 use native.Mathlib.Omega.{arith}
-use mathlib.Core.List.{append-assoc}
 use Rattle.lines.specs.Text.{bytesOf}
 use Rattle.sheettext.specs.Form.{shown}
 use borrow.Author.Needs.{needs}
 use Rattle.sheettext.proofs.show_record.Statement.{statement}
 use Rattle.sheettext.proofs.show_record.Tie as tie
-use Rattle.sheettext.proofs.show_record.Reads as reads
-use Rattle.sheettext.proofs.show_record.Lts as lts
-use Rattle.sheettext.proofs.bit.Reads as bit-reads
-use Rattle.sheettext.proofs.put.Reads as put-reads
-use Rattle.sheettext.proofs.put_call.Reads as put-call-reads
-use Rattle.sheettext.proofs.put_field.Reads as put-field-reads
-use Rattle.sheettext.proofs.usual_allow.Reads as usual-allow-reads
 
 put-call-requires : tie.Need-put-call-requires
 put-call-requires c κs = search needs

@@ -9,8 +9,6 @@ use lib.Seq.{take-length}
 use Rattle.sheettext.proofs.Laws.{put-step}
 use Rattle.sheettext.proofs.store.Statement.{statement}
 use Rattle.sheettext.proofs.store.Tie as tie
-use Rattle.sheettext.proofs.store.Reads as reads
-use Rattle.sheettext.proofs.store.Lts as lts
 
 abbrev Inv-loop : tie.InvT-loop
 Inv-loop bytes out₀ at i₀ out i = (i ≤ length bytes) × (length out ≡ length out₀) × (take (at + i) out ≡ take at out₀ ++ take i bytes)

@@ -6,14 +6,9 @@ use lib.Seq.{length-take-le}
 use borrow.Author.Needs.{needs}
 use Rattle.sheettext.proofs.take_byte.Statement.{statement}
 use Rattle.sheettext.proofs.take_byte.Tie as tie
-use Rattle.sheettext.proofs.take_byte.Reads as reads
-use Rattle.sheettext.proofs.take_byte.Lts as lts
-use Rattle.basics.proofs.one_more.Reads as one-more-reads
-use Rattle.sheettext.proofs.add_line.Reads as add-line-reads
-use Rattle.sheettext.proofs.so_far_is.Reads as so-far-is-reads
 
-so-far-is-requires : tie.Need-so-far-is-requires
-so-far-is-requires c κs = search needs
+outcome-requires : tie.Need-outcome-requires
+outcome-requires c κs = search needs
 
 returns : tie.Need-returns
 returns c = search needs
@@ -27,8 +22,8 @@ slice-aggregate-add-line c = let g : length (c .before .before .before .before .
 add-line-requires : tie.Need-add-line-requires
 add-line-requires c κs = search needs
 
-so-far-is-requires-2 : tie.Need-so-far-is-requires-2
-so-far-is-requires-2 c κs = search needs
+outcome-requires-2 : tie.Need-outcome-requires-2
+outcome-requires-2 c κs = search needs
 
 same-length : tie.Need-same-length
 same-length c = search needs
@@ -39,8 +34,8 @@ returns-2 c = search needs
 one-more-requires : tie.Need-one-more-requires
 one-more-requires c κs = search needs
 
-so-far-is-requires-3 : tie.Need-so-far-is-requires-3
-so-far-is-requires-3 c κs = search needs
+outcome-requires-3 : tie.Need-outcome-requires-3
+outcome-requires-3 c κs = search needs
 
 same-length-2 : tie.Need-same-length-2
 same-length-2 c = search needs
@@ -48,8 +43,8 @@ same-length-2 c = search needs
 returns-3 : tie.Need-returns-3
 returns-3 c = search needs
 
-so-far-is-requires-4 : tie.Need-so-far-is-requires-4
-so-far-is-requires-4 c κs = search needs
+outcome-requires-4 : tie.Need-outcome-requires-4
+outcome-requires-4 c κs = search needs
 
 returns-4 : tie.Need-returns-4
 returns-4 c = search needs
@@ -57,11 +52,11 @@ returns-4 c = search needs
 array-write-line : tie.Need-array-write-line
 array-write-line c = search needs
 
-add-so-far-is : tie.Need-add-so-far-is
-add-so-far-is c = search needs
+add-outcome : tie.Need-add-outcome
+add-outcome c = search needs
 
-so-far-is-requires-5 : tie.Need-so-far-is-requires-5
-so-far-is-requires-5 c κs = search needs
+outcome-requires-5 : tie.Need-outcome-requires-5
+outcome-requires-5 c κs = search needs
 
 returns-5 : tie.Need-returns-5
 returns-5 c = search needs
@@ -70,21 +65,21 @@ pub take-byte-spec : {M : Type 1} → statement M
 take-byte-spec =
     tie.close
     (tie.spec
-    so-far-is-requires
+    outcome-requires
     returns
     array-share-prefix-line
     slice-aggregate-add-line
     add-line-requires
-    so-far-is-requires-2
+    outcome-requires-2
     same-length
     returns-2
     one-more-requires
-    so-far-is-requires-3
+    outcome-requires-3
     same-length-2
     returns-3
-    so-far-is-requires-4
+    outcome-requires-4
     returns-4
     array-write-line
-    add-so-far-is
-    so-far-is-requires-5
+    add-outcome
+    outcome-requires-5
     returns-5)

@@ -8,11 +8,6 @@ use Rattle.sheettext.proofs.Laws.{all-from, size-is, word-is, behind-is
 use borrow.Author.Needs.{needs}
 use Rattle.sheettext.proofs.text_says.Statement.{statement}
 use Rattle.sheettext.proofs.text_says.Tie as tie
-use Rattle.sheettext.proofs.text_says.Reads as reads
-use Rattle.sheettext.proofs.text_says.Lts as lts
-use Rattle.sheettext.proofs.call_of.Reads as call-of-reads
-use Rattle.sheettext.proofs.next_word.Reads as next-word-reads
-use Rattle.sheettext.proofs.with_words.Reads as with-words-reads
 
 next-word-requires : tie.Need-next-word-requires
 next-word-requires c κs = search needs

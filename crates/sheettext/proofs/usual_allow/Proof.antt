@@ -3,8 +3,6 @@ use Rattle.basics.proofs.Tests.{tests}
 use Rattle.sheettext.specs.Form.{usualAllow}
 use Rattle.sheettext.proofs.usual_allow.Statement.{statement}
 use Rattle.sheettext.proofs.usual_allow.Tie as tie
-use Rattle.sheettext.proofs.usual_allow.Reads as reads
-use Rattle.sheettext.proofs.usual_allow.Lts as lts
 
 returns : tie.Need-returns
 unfolding usualAllow

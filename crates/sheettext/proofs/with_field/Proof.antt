@@ -9,10 +9,6 @@ use Rattle.sheettext.proofs.Laws.{good-place}
 use borrow.Author.Needs.{needs}
 use Rattle.sheettext.proofs.with_field.Statement.{statement}
 use Rattle.sheettext.proofs.with_field.Tie as tie
-use Rattle.sheettext.proofs.with_field.Reads as reads
-use Rattle.sheettext.proofs.with_field.Lts as lts
-use Rattle.sheettext.proofs.is.Reads as is-reads
-use Rattle.sheettext.proofs.with_number.Reads as with-number-reads
 
 slice-aggregate-is : tie.Need-slice-aggregate-is
 slice-aggregate-is c = search needs

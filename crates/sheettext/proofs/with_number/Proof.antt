@@ -6,8 +6,6 @@ use Rattle.sheettext.specs.Parse.{withNumber}
 use Rattle.sheettext.proofs.Laws.{good-number}
 use Rattle.sheettext.proofs.with_number.Statement.{statement}
 use Rattle.sheettext.proofs.with_number.Tie as tie
-use Rattle.sheettext.proofs.with_number.Reads as reads
-use Rattle.sheettext.proofs.with_number.Lts as lts
 
 returns : tie.Need-returns
 unfolding withNumber

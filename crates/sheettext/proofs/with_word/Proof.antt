@@ -1,25 +1,15 @@
 -- `sheettext::with_word` meets its contract. Assumes nothing.
 use Prim.Native.Nat.{_+_}
-use mathlib.Core.Path.{ap}
-use lib.ListN.{take, drop}
-use Rattle.sheettext.specs.Parse.{numberOf, withField}
-use Rattle.sheettext.proofs.Laws.{all-from}
-use mathlib.Core.Path.{refl, sym, _∙_}
-use lib.ListN.{length}
+use mathlib.Core.Path.{ap, refl, sym, _∙_}
+use lib.ListN.{take, drop, length}
+use Rattle.sheettext.specs.Parse.{numberOf, withField, withWord}
+use Rattle.sheettext.proofs.Laws.{all-from, found-at, number-is, number-wrong}
 use lib.Seq.{length-take-le}
 use borrow.Author.Tests.{eq-eqb, ne-eqb}
 use Rattle.bytes.specs.Bytes.{indexOf}
-use Rattle.sheettext.specs.Parse.{withWord}
-use Rattle.sheettext.proofs.Laws.{found-at, number-is, number-wrong}
 use borrow.Author.Needs.{needs}
 use Rattle.sheettext.proofs.with_word.Statement.{statement}
 use Rattle.sheettext.proofs.with_word.Tie as tie
-use Rattle.sheettext.proofs.with_word.Reads as reads
-use Rattle.sheettext.proofs.with_word.Lts as lts
-use Rattle.bytes.proofs.scan.find.Reads as find-reads
-use Rattle.sheettext.proofs.number_of.Reads as number-of-reads
-use Rattle.sheettext.proofs.with_field.Reads as with-field-reads
-use Rattle.sheettext.proofs.with_number.Reads as with-number-reads
 
 find-requires : tie.Need-find-requires
 find-requires c κs = search needs

@@ -10,10 +10,6 @@ use Rattle.sheettext.specs.Parse.{called, withWords}
 use Rattle.sheettext.proofs.Laws.{words-none, words-more, words-end}
 use Rattle.sheettext.proofs.with_words.Statement.{statement}
 use Rattle.sheettext.proofs.with_words.Tie as tie
-use Rattle.sheettext.proofs.with_words.Reads as reads
-use Rattle.sheettext.proofs.with_words.Lts as lts
-use Rattle.sheettext.proofs.next_word.Reads as next-word-reads
-use Rattle.sheettext.proofs.with_word.Reads as with-word-reads
 
 abbrev Inv-loop : tie.InvT-loop
 Inv-loop text so-far₀ at₀ left₀ so-far at left = (at ≤ length text) × (good so-far ≡ true) × (withWords left so-far (drop at text) ≡ withWords (length text) so-far₀ text)

@@ -1,17 +1,11 @@
 -- `sheettext::write_record` meets its contract. Assumes nothing.
-use Rattle.sheettext.proofs.Laws.{far-place, far-number}
+use Rattle.sheettext.proofs.Laws.{far-place, far-number, reads-back}
 use native.Mathlib.Omega.{arith}
-use Rattle.basics.proofs.Tests.{tests}
 use Rattle.lines.specs.Record.{readRecord, inRange}
 use Rattle.sheettext.specs.Good.{good}
-use Rattle.sheettext.proofs.Laws.{reads-back}
 use borrow.Author.Needs.{needs}
 use Rattle.sheettext.proofs.write_record.Statement.{statement}
 use Rattle.sheettext.proofs.write_record.Tie as tie
-use Rattle.sheettext.proofs.write_record.Reads as reads
-use Rattle.sheettext.proofs.write_record.Lts as lts
-use Rattle.sheettext.proofs.bit.Reads as bit-reads
-use Rattle.sheettext.proofs.low_4.Reads as low-4-reads
 
 returns : tie.Need-returns
 unfolding readRecord inRange good
