@@ -10,7 +10,7 @@ ghost use Rattle.lines.specs.Record.{readRecord};
 ghost use Rattle.lines.specs.Text.{decimal};
 ghost use Rattle.sheettext.specs.Good.{good, goodLine, bitOf, fourValue};
 ghost use Rattle.sheettext.specs.Parse.{isBlank, countsAs, runOf, sameBytes, numberTry, numberOf, plainCall, callOf, withField, withNumber, withWord, wordSize, withWords, textSays, lineSays};
-ghost use Rattle.sheettext.specs.Form.{shown, listedText, callText, fieldText, usualAllow, textOf};
+ghost use Rattle.sheettext.specs.Form.{shown, callText, fieldText, usualAllow, textOf};
 use bytes::scan::find;
 use check::same;
 use key::CacheKey;
@@ -32,13 +32,6 @@ pub const NO_FIELD: u8 = 2;
 pub const NO_NUMBER: u8 = 3;
 
 pub const RANGE: u8 = 4;
-
-pub const LONG: u8 = 5;
-
-pub const NO_ROOM: u8 = 6;
-
-// The most bytes of a line that is read, without its end.
-pub const LINE: usize = 256;
 
 // The bytes that a record's line of text has room in.
 pub const ROOM: usize = 192;
@@ -65,27 +58,6 @@ pub struct Text {
 struct Spelled {
     bytes: [u8; 20],
     from: usize,
-}
-
-// A line that has begun, with the number of lines before it.
-pub struct Reading {
-    pub line: [u8; 256],
-    pub len: usize,
-    pub before: u64,
-}
-
-// What a block came to: the line that has begun, the bytes written, and what is wrong with that line, or 0.
-pub struct Turned {
-    pub reading: Reading,
-    pub written: usize,
-    pub wrong: u8,
-}
-
-// What a block of records came to: the bytes written, the records before the first bad one, and whether there is a bad one.
-pub struct Listed {
-    pub written: usize,
-    pub records: usize,
-    pub bad: bool,
 }
 
 // ---- a record's 24 bytes
@@ -590,171 +562,4 @@ pub fn parse_line(line: &[u8]) -> Parsed
 {
     let end = find(line, 0, line.len(), b'#');
     text_says(&line[..end])
-}
-
-// ---- blocks
-
-// What a line of text adds to the records written: their bytes in all, and what is wrong with the line, or 0.
-struct Added {
-    written: usize,
-    wrong: u8,
-}
-
-// Some bytes in a list from a place on, and the place behind them.
-fn store(bytes: &[u8], out: &mut [u8], at: usize) -> usize
-    requires { ⌜ at + length (now bytes) ≤ length (now out) ⌝ }
-    ensures { λ r. ⌜ take r (now (out .exit)) ≡ take at (now (out .entry)) ++ now (bytes .entry) ⌝ }
-    ensures { λ r. ⌜ r ≡ at + length (now (bytes .entry)) ⌝ }
-    ensures { λ r. ⌜ length (now (out .exit)) ≡ length (now (out .entry)) ⌝ }
-{
-    let mut i: usize = 0;
-    while i < bytes.len() {
-        out[at + i] = bytes[i];
-        i += 1;
-    }
-    at + i
-}
-
-fn add_line(line: &[u8], out: &mut [u8], at: usize) -> Added
-    requires { ⌜ at ≤ length (now out) ⌝ }
-    ensures { λ r. ⌜ r .written ≤ length (now (out .exit)) ⌝ }
-    ensures { λ r. ⌜ length (now (out .exit)) ≡ length (now (out .entry)) ⌝ }
-{
-    match parse_line(line) {
-        Parsed::Call(call) => {
-            if out.len() - at < 24 {
-                return Added {
-                    written: at,
-                    wrong: NO_ROOM,
-                };
-            }
-            let bytes = write_record(call);
-            let written = store(&bytes, out, at);
-            Added {
-                written: written,
-                wrong: 0,
-            }
-        }
-        Parsed::Nothing => Added {
-            written: at,
-            wrong: 0,
-        },
-        Parsed::Wrong(why) => Added {
-            written: at,
-            wrong: why,
-        },
-    }
-}
-
-// One byte of a text more: the end of a line adds its record.
-fn take_byte(reading: Reading, byte: u8, out: &mut [u8], at: usize) -> Turned
-    requires { ⌜ at ≤ length (now out) ⌝ }
-    ensures { λ r. ⌜ r .written ≤ length (now (out .exit)) ⌝ }
-    ensures { λ r. ⌜ length (now (out .exit)) ≡ length (now (out .entry)) ⌝ }
-{
-    let mut line = reading.line;
-    let len = reading.len;
-    if LINE < len {
-        return outcome(line, len, reading.before, at, LONG);
-    }
-    if byte == b'\n' {
-        let added = add_line(&line[..len], out, at);
-        if 0 < added.wrong {
-            return outcome(line, len, reading.before, added.written, added.wrong);
-        }
-        return outcome(line, 0, basics::one_more(reading.before), added.written, 0);
-    }
-    if len == LINE {
-        return outcome(line, len, reading.before, at, LONG);
-    }
-    line[len] = byte;
-    outcome(line, len + 1, reading.before, at, 0)
-}
-
-fn outcome(line: [u8; 256], len: usize, before: u64, written: usize, wrong: u8) -> Turned
-    ensures { λ r. ⌜ r .written ≡ written ⌝ }
-{
-    let reading = Reading {
-        line: line,
-        len: len,
-        before: before,
-    };
-    Turned {
-        reading: reading,
-        written: written,
-        wrong: wrong,
-    }
-}
-
-// The records of a block of text, behind a line that has begun. It ends at the first line that is wrong.
-pub fn records_of(reading: Reading, text: &[u8], out: &mut [u8]) -> Turned
-    ensures { λ r. ⌜ r .written ≤ length (now (out .exit)) ⌝ }
-    ensures { λ r. ⌜ length (now (out .exit)) ≡ length (now (out .entry)) ⌝ }
-{
-    let mut so_far = reading;
-    let mut written: usize = 0;
-    let mut i: usize = 0;
-    while i < text.len() {
-        let next = take_byte(so_far, text[i], out, written);
-        if 0 < next.wrong {
-            return next;
-        }
-        so_far = next.reading;
-        written = next.written;
-        i += 1;
-    }
-    Turned {
-        reading: so_far,
-        written: written,
-        wrong: 0,
-    }
-}
-
-// A text in a list from a place on.
-fn store_text(text: Text, out: &mut [u8], at: usize) -> usize
-    requires { ⌜ (text .len ≤ 192) × (at + text .len ≤ length (now out)) ⌝ }
-    ensures { λ r. ⌜ take r (now (out .exit)) ≡ take at (now (out .entry)) ++ textOf text ⌝ }
-    ensures { λ r. ⌜ r ≡ at + text .len ⌝ }
-    ensures { λ r. ⌜ length (now (out .exit)) ≡ length (now (out .entry)) ⌝ }
-{
-    let bytes = text.bytes;
-    let len = text.len;
-    store(&bytes[..len], out, at)
-}
-
-// The text of a block of records, up to the first that is bad: as many as have room.
-pub fn text_of(bytes: &[u8], out: &mut [u8]) -> Listed
-    ensures { λ r. ⌜ take (r .written) (now (out .exit)) ≡ listedText (length (now (out .entry)) / 192) (now (bytes .entry)) ⌝ }
-    ensures { λ r. ⌜ r .written ≤ length (now (out .exit)) ⌝ }
-    ensures { λ r. ⌜ length (now (out .exit)) ≡ length (now (out .entry)) ⌝ }
-{
-    let mut written: usize = 0;
-    let mut records: usize = 0;
-    let mut at: usize = 0;
-    let mut left = out.len() / ROOM;
-    while 0 < left {
-        if bytes.len() <= at {
-            return Listed {
-                written: written,
-                records: records,
-                bad: false,
-            };
-        }
-        let Read::Whole(call) = lines::read_record(&bytes[at..]) else {
-            return Listed {
-                written: written,
-                records: records,
-                bad: true,
-            };
-        };
-        written = store_text(show_record(call), out, written);
-        records += 1;
-        at += lines::RECORD;
-        left -= 1;
-    }
-    Listed {
-        written: written,
-        records: records,
-        bad: false,
-    }
 }

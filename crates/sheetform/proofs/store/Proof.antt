@@ -1,4 +1,4 @@
--- `sheettext::store` meets its contract. The invariant: the front of the list, and what was passed of the bytes behind it. Assumes nothing.
+-- `sheetform::store` meets its contract. The invariant: the front of the list, and what was passed of the bytes behind it. Assumes nothing.
 use native.Mathlib.Omega.{arith}
 use borrow.Author.Needs.{needs}
 use Prim.Native.Nat.{_+_, _-_, _≤_}
@@ -6,9 +6,9 @@ use mathlib.Core.Path.{_≡_, refl, sym, ap, _∙_}
 use mathlib.Core.List.{_++_, append-nil}
 use lib.ListN.{length, take, length-set}
 use lib.Seq.{take-length}
 use Rattle.sheettext.proofs.Laws.{put-step}
-use Rattle.sheettext.proofs.store.Statement.{statement}
-use Rattle.sheettext.proofs.store.Tie as tie
+use Rattle.sheetform.proofs.store.Statement.{statement}
+use Rattle.sheetform.proofs.store.Tie as tie
 
 abbrev Inv-loop : tie.InvT-loop
 Inv-loop bytes out₀ at i₀ out i = (i ≤ length bytes) × (length out ≡ length out₀) × (take (at + i) out ≡ take at out₀ ++ take i bytes)

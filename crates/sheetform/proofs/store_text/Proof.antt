@@ -1,12 +1,12 @@
--- `sheettext::store_text` meets its contract. Assumes nothing.
+-- `sheetform::store_text` meets its contract. Assumes nothing.
 use Prim.Native.Nat.{_+_}
 use mathlib.Core.Path.{_≡_, _∙_, ap, sym}
 use lib.ListN.{length}
 use native.Mathlib.Omega.{arith}
 use lib.Seq.{length-take-le}
 use borrow.Author.Needs.{needs}
-use Rattle.sheettext.proofs.store_text.Statement.{statement}
-use Rattle.sheettext.proofs.store_text.Tie as tie
+use Rattle.sheetform.proofs.store_text.Statement.{statement}
+use Rattle.sheetform.proofs.store_text.Tie as tie
 
 array-share-prefix-bytes : tie.Need-array-share-prefix-bytes
 array-share-prefix-bytes c = let g : length (c .before .before .args .text .bytes) ≡ 192 = search needs in omega arith

@@ -1,11 +1,11 @@
--- `sheettext::take_byte` meets its contract. Assumes nothing.
+-- `sheetform::take_byte` meets its contract. Assumes nothing.
 use native.Mathlib.Omega.{arith}
 use mathlib.Core.Path.{_≡_, sym}
 use lib.ListN.{length}
 use lib.Seq.{length-take-le}
 use borrow.Author.Needs.{needs}
-use Rattle.sheettext.proofs.take_byte.Statement.{statement}
-use Rattle.sheettext.proofs.take_byte.Tie as tie
+use Rattle.sheetform.proofs.take_byte.Statement.{statement}
+use Rattle.sheetform.proofs.take_byte.Tie as tie
 
 outcome-requires : tie.Need-outcome-requires
 outcome-requires c κs = search needs

@@ -1,11 +1,11 @@
--- `sheettext::records_of` meets its contract. Assumes nothing.
+-- `sheetform::records_of` meets its contract. Assumes nothing.
 use native.Mathlib.Omega.{arith}
 use borrow.Author.Needs.{needs}
 use Prim.Native.Nat.{_-_, _≤_}
 use mathlib.Core.Path.{_≡_, refl, _∙_}
 use lib.ListN.{length}
-use Rattle.sheettext.proofs.records_of.Statement.{statement}
-use Rattle.sheettext.proofs.records_of.Tie as tie
+use Rattle.sheetform.proofs.records_of.Statement.{statement}
+use Rattle.sheetform.proofs.records_of.Tie as tie
 
 abbrev Inv-loop : tie.InvT-loop
 Inv-loop text out₀ so-far₀ written₀ i₀ out so-far written i = (length out ≡ length out₀) × (written ≤ length out₀) × (i ≤ length text)

@@ -1,0 +1,40 @@
+-- The line of a record says the record again: each call, with fields at and off what is usual. Assumes nothing.
+use Prim.Native.Nat.{ℕ, _-_}
+use mathlib.Core.Path.{_≡_, refl}
+use mathlib.Core.Bool.{Bool, true, false}
+use mathlib.Core.List.{List, [], _∷_, map}
+use lib.ListN.{length, take}
+use Rattle.bytes.specs.Bytes.{indexOf, indexAfter}
+use Rattle.lines.specs.declared.Record.{Record}
+use Rattle.lines.specs.Text.{bytesOf, digitsFrom, decimal}
+use Rattle.sheettext.specs.declared.Parsed.{Parsed}
+use Rattle.sheettext.specs.Form.{fieldText, callText, usualAllow, shown}
+use Rattle.sheettext.specs.Parse.{isBlank, countsAs, runOf, sameBytes, numberFrom, numberOf, callOf, withNumber, withField, withWord, withWords, textSays, lineSays}
+
+unfoldable pub call : ℕ → Bool → ℕ → ℕ → ℕ → ℕ → ℕ → Record
+call code allow kind place number file index = record { code = code; allow = allow; place = place; number = number; key = record { file = file; kind = kind; index = index } }
+
+unfoldable pub samples : List Record
+unfolding call
+samples =
+    call 1 false 0 0 4 0 0
+    ∷ call 1 true 1 2 0 3 4
+    ∷ call 2 true 255 15 0 7 18446744073709551615
+    ∷ call 2 false 0 0 4294967295 18446744073709551615 0
+    ∷ call 3 false 0 1 0 0 0
+    ∷ call 4 true 0 0 0 0 0
+    ∷ call 5 false 2 0 0 7 3
+    ∷ call 6 false 0 0 2 0 0
+    ∷ call 7 true 0 0 2 0 0
+    ∷ call 7 false 9 9 0 9 9
+    ∷ call 8 false 0 0 8 0 0
+    ∷ call 9 true 0 3 70 0 0
+    ∷ []
+
+-- a line without its end
+unfoldable pub lineOf : Record → List ℕ
+lineOf r = take (length (shown r) - 1) (shown r)
+
+pub said-again : map (λ r. lineSays (lineOf r)) samples ≡ map (λ r. Parsed.Call r) samples
+unfolding call samples lineOf indexOf indexAfter bytesOf digitsFrom decimal fieldText callText usualAllow shown isBlank countsAs runOf sameBytes numberFrom numberOf callOf withNumber withField withWord withWords textSays lineSays
+said-again = refl
