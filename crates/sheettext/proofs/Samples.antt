@@ -8,7 +8,7 @@ use Rattle.bytes.specs.Bytes.{indexOf, indexAfter}
 use Rattle.lines.specs.declared.Record.{Record}
 use Rattle.lines.specs.Text.{bytesOf, digitsFrom, decimal}
 use Rattle.sheettext.specs.declared.Parsed.{Parsed}
-use Rattle.sheettext.specs.Form.{fieldText, callText, usualAllow, shown}
+use Rattle.sheettext.specs.Form.{fieldText, wordText, callText, usualAllow, shown}
 use Rattle.sheettext.specs.Parse.{isBlank, countsAs, runOf, sameBytes, numberFrom, numberOf, callOf, withNumber, withField, withWord, withWords, textSays, lineSays}
 
 unfoldable pub call : ℕ → Bool → ℕ → ℕ → ℕ → ℕ → ℕ → Record
@@ -36,5 +36,5 @@ unfoldable pub lineOf : Record → List ℕ
 lineOf r = take (length (shown r) - 1) (shown r)
 
 pub said-again : map (λ r. lineSays (lineOf r)) samples ≡ map (λ r. Parsed.Call r) samples
-unfolding call samples lineOf indexOf indexAfter bytesOf digitsFrom decimal fieldText callText usualAllow shown isBlank countsAs runOf sameBytes numberFrom numberOf callOf withNumber withField withWord withWords textSays lineSays
+unfolding call samples lineOf indexOf indexAfter bytesOf digitsFrom decimal fieldText wordText callText usualAllow shown isBlank countsAs runOf sameBytes numberFrom numberOf callOf withNumber withField withWord withWords textSays lineSays
 said-again = refl

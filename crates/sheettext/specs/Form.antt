@@ -2,7 +2,7 @@
 use Prim.Native.Nat.{ℕ, zero, suc}
 use mathlib.Core.Bool.{Bool, true, false}
 use mathlib.Core.List.{List, [], _∷_, _++_}
-use lib.Dec.{eqb}
+use lib.Dec.{eqb, ltb}
 use lib.ListN.{length, take, drop}
 use Rattle.basics.specs.Try.{if_then_else_}
 use Rattle.lines.specs.declared.Record.{Record}
@@ -20,19 +20,27 @@ textOf t = take (t .len) (t .bytes)
 unfoldable pub fieldText : List ℕ → ℕ → ℕ → List ℕ
 fieldText name value usual = if eqb value usual then [] else name ++ decimal value
 
--- the word; new, remove, pin, unpin, resize and reclaim always show their number
+-- the word of a call
+unfoldable pub wordText : Bool → ℕ → List ℕ
+wordText allow code =
+    if eqb code 1 then bytesOf "new " else
+    if eqb code 2 then bytesOf "access" else
+    if eqb code 3 then bytesOf "publish" else
+    if eqb code 4 then bytesOf "abort" else
+    if eqb code 5 then bytesOf "lookup" else
+    if eqb code 6 then bytesOf "remove slot=" else
+    if eqb code 7 then (if allow then bytesOf "pin slot=" else bytesOf "unpin slot=") else
+    if eqb code 8 then bytesOf "resize " else
+    if eqb code 9 then bytesOf "reclaim " else
+    bytesOf "? "
+
+-- with its number: access, publish, abort and lookup show it only where it is not 0
 unfoldable pub callText : Record → List ℕ
 callText r =
-    if eqb (r .code) 1 then bytesOf "new " ++ decimal (r .number) else
-    if eqb (r .code) 2 then bytesOf "access" ++ fieldText (bytesOf " number=") (r .number) 0 else
-    if eqb (r .code) 3 then bytesOf "publish" ++ fieldText (bytesOf " number=") (r .number) 0 else
-    if eqb (r .code) 4 then bytesOf "abort" ++ fieldText (bytesOf " number=") (r .number) 0 else
-    if eqb (r .code) 5 then bytesOf "lookup" ++ fieldText (bytesOf " number=") (r .number) 0 else
-    if eqb (r .code) 6 then bytesOf "remove slot=" ++ decimal (r .number) else
-    if eqb (r .code) 7 then (if r .allow then bytesOf "pin slot=" ++ decimal (r .number) else bytesOf "unpin slot=" ++ decimal (r .number)) else
-    if eqb (r .code) 8 then bytesOf "resize " ++ decimal (r .number) else
-    if eqb (r .code) 9 then bytesOf "reclaim " ++ decimal (r .number) else
-    bytesOf "?"
+    wordText (r .allow) (r .code) ++
+    (if ltb (r .code) 2 then decimal (r .number) else
+    if ltb 5 (r .code) then decimal (r .number) else
+    fieldText (bytesOf " number=") (r .number) 0)
 
 -- what allow is where the line does not say it: 1 for an access, and the word says it of a pin
 unfoldable pub usualAllow : Record → Bool

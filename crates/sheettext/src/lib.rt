@@ -10,7 +10,7 @@ ghost use Rattle.lines.specs.Record.{readRecord};
 ghost use Rattle.lines.specs.Text.{decimal};
 ghost use Rattle.sheettext.specs.Good.{good, goodLine, bitOf, fourValue};
 ghost use Rattle.sheettext.specs.Parse.{isBlank, countsAs, runOf, sameBytes, numberTry, numberOf, plainCall, callOf, withField, withNumber, withWord, wordSize, withWords, textSays, lineSays};
-ghost use Rattle.sheettext.specs.Form.{shown, callText, fieldText, usualAllow, textOf};
+ghost use Rattle.sheettext.specs.Form.{shown, wordText, callText, fieldText, usualAllow, textOf};
 use bytes::scan::find;
 use check::same;
 use key::CacheKey;
@@ -212,47 +212,62 @@ fn put_field(text: Text, name: &[u8], value: u64, usual: u64) -> Text
     put_number(put(text, name), value)
 }
 
-// The word of a call, with its number where it always shows one.
-fn put_call(call: Record) -> Text
-    ensures { λ r. ⌜ textOf r ≡ callText call ⌝ }
-    ensures { λ r. ⌜ r .len ≤ 35 ⌝ }
+// The word of a call.
+fn put_word(code: u8, allow: bool) -> Text
+    ensures { λ r. ⌜ textOf r ≡ wordText allow code ⌝ }
+    ensures { λ r. ⌜ r .len ≤ 12 ⌝ }
 {
     let text = Text {
         bytes: [0; 192],
         len: 0,
     };
-    let number = call.number as u64;
-    if call.code == 1 {
-        return put_number(put(text, b"new "), number);
+    if code == 1 {
+        return put(text, b"new ");
     }
-    if call.code == 2 {
-        return put_field(put(text, b"access"), b" number=", number, 0);
+    if code == 2 {
+        return put(text, b"access");
     }
-    if call.code == 3 {
-        return put_field(put(text, b"publish"), b" number=", number, 0);
+    if code == 3 {
+        return put(text, b"publish");
     }
-    if call.code == 4 {
-        return put_field(put(text, b"abort"), b" number=", number, 0);
+    if code == 4 {
+        return put(text, b"abort");
     }
-    if call.code == 5 {
-        return put_field(put(text, b"lookup"), b" number=", number, 0);
+    if code == 5 {
+        return put(text, b"lookup");
     }
-    if call.code == 6 {
-        return put_number(put(text, b"remove slot="), number);
+    if code == 6 {
+        return put(text, b"remove slot=");
     }
-    if call.code == 7 {
-        if call.allow {
-            return put_number(put(text, b"pin slot="), number);
+    if code == 7 {
+        if allow {
+            return put(text, b"pin slot=");
         }
-        return put_number(put(text, b"unpin slot="), number);
+        return put(text, b"unpin slot=");
     }
-    if call.code == 8 {
-        return put_number(put(text, b"resize "), number);
+    if code == 8 {
+        return put(text, b"resize ");
     }
-    if call.code == 9 {
-        return put_number(put(text, b"reclaim "), number);
+    if code == 9 {
+        return put(text, b"reclaim ");
     }
-    put(text, b"?")
+    put(text, b"? ")
+}
+
+// It with its number: access, publish, abort and lookup show it only where it is not 0.
+fn put_call(call: Record) -> Text
+    ensures { λ r. ⌜ textOf r ≡ callText call ⌝ }
+    ensures { λ r. ⌜ r .len ≤ 40 ⌝ }
+{
+    let word = put_word(call.code, call.allow);
+    let number = call.number as u64;
+    if call.code < 2 {
+        return put_number(word, number);
+    }
+    if 5 < call.code {
+        return put_number(word, number);
+    }
+    put_field(word, b" number=", number, 0)
 }
 
 // What allow is where the line does not say it: 1 for an access, and the word says it of a pin.
