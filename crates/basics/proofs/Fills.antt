@@ -2,14 +2,14 @@
 use Prim.Native.Nat.{ℕ, suc, _+_, _-_, _<_, _≤_}
 use native.Mathlib.Omega.{arith}
 use native.Mathlib.Numerals.{add-one}
-use mathlib.Core.Path.{_≡_, refl, sym, _∙_, ap}
+use mathlib.Core.Path.{_≡_, sym, _∙_}
 use mathlib.Core.List.{List, _++_}
 use lib.ListN.{length, getD, set, take, replicate, length-replicate, getD-replicate}
 use lib.Seq.{length-take-le, take-all, take-suc, append-snoc, set-at}
 use Rattle.basics.specs.Lists.{down}
 use Rattle.basics.proofs.Members.{down-length, down-at}
 
--- an array of so many places after i turns
+-- an array after i turns
 abbrev pub filled : ℕ → List ℕ → ℕ → List ℕ
 filled places l i = take i l ++ replicate (places - i) 0
 

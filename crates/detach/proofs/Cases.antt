@@ -1,14 +1,14 @@
 -- What the proofs of the removals share: the ends of `detachCounted`, and that remove and detach are it. Assumes nothing.
 use Prim.Native.Nat.{ℕ, _-_, _<_}
 use mathlib.Core.Path.{_≡_, refl, sym, _∙_, ap}
-use mathlib.Core.Bool.{true, not}
+use mathlib.Core.Bool.{true}
 use lib.Dec.{ltb, eqb}
 use borrow.Author.Tests.{lt-ltb, eq-eqb}
 use Rattle.basics.specs.Try.{Try, ok, refuse, _>>=_, _>>_}
 use Rattle.basics.specs.Refusals.{STOP}
 use Rattle.basics.specs.Answers.{Fine, done}
 use Rattle.basics.specs.declared.Done.{Done}
-use Rattle.basics.proofs.Tests.{is, no-ltb, some-ltb, met, went, ok-same, bind-same}
+use Rattle.basics.proofs.Tests.{no-ltb, some-ltb, met, went, ok-same, bind-same}
 use Rattle.index.specs.declared.Index.{Index}
 use Rattle.index.specs.declared.Moved.{Moved as IndexMoved}
 use Rattle.index.specs.Answers.{movedOf as indexMovedOf, tryDone as tryIndex, tryMoved as tryIndexMoved}

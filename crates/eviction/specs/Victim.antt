@@ -24,7 +24,7 @@ oldestOf c h = candidateAt c h 0
 abbrev pub unpinned : List ℕ → ℕ → Bool
 unpinned pins slot = eqb (getD pins slot 0) 0
 
--- the first unpinned slot from heap place i on, in so many places; past the heap's end there is none
+-- the first unpinned slot from heap place i on, in the places left; past the heap's end there is none
 unfoldable pub victimFrom : ℕ → ℕ → EvictionHeap → List ℕ → ℕ → Try (Option ℕ)
 victimFrom zero c h pins i = ok none
 victimFrom (suc left) c h pins i =
@@ -33,7 +33,7 @@ victimFrom (suc left) c h pins i =
     if unpinned pins (at h i .slot) then ok (some (at h i .slot)) else
     victimFrom left c h pins (i + 1)
 
--- the victim search of access and of reclaim, among the first `places` heap places
+-- the victim search of access and of reclaim, among the first `places` heap places. Both have made its two tests before, so that these cannot fail there.
 unfoldable pub victimOf : ℕ → ℕ → EvictionHeap → List ℕ → Try (Option ℕ)
 victimOf places c h pins = do
   need (sized c h) STOP

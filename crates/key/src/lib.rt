@@ -1,7 +1,7 @@
 // SPDX-FileCopyrightText: 2026 roolrz
 // SPDX-License-Identifier: Apache-2.0
 
-// key.rs: the key, its bucket, and the bucket counts.
+// Document 01's key and its bucket, in place of the Rust's key.rs; and the bucket counts, which the Rust works out in index.rs.
 ghost use mathlib.Core.Path.{_≡_};
 ghost use Rattle.key.specs.Key.{sameKey};
 ghost use Rattle.key.specs.Bucket.{bucketOf, countFor};
@@ -20,7 +20,7 @@ pub enum Count {
 }
 
 // The bucket count of each capacity 1 to 256: the least power of two not below twice the capacity.
-pub const BUCKET_COUNTS: [usize; 256] = [
+const BUCKET_COUNTS: [usize; 256] = [
     2,
     4,
     8,

@@ -12,7 +12,7 @@ use Rattle.steps.specs.declared.Standing.{Standing}
 use Rattle.steps.specs.Standing.{start}
 use Rattle.sheet.specs.Run.{runAll}
 
--- a number in so many bytes, low byte first
+-- a number in some bytes, low byte first
 unfoldable pub inBytes : ℕ → ℕ → List ℕ
 inBytes zero n = []
 inBytes (suc more) n = n % 256 ∷ inBytes more (n / 256)
@@ -47,7 +47,7 @@ resize capacity = record24 8 0 0 capacity 0
 abbrev pub load : ℕ → List ℕ
 load file = access 0 file ++ publish 0
 
--- so many keys of one bucket of a table of 256 reserved
+-- n keys of one bucket of a table of 256 reserved
 unfoldable pub chain : ℕ → List ℕ
 chain zero = []
 chain (suc n) = access 0 (n * 512) ++ chain n

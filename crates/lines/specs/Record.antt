@@ -12,7 +12,7 @@ use Rattle.lines.specs.declared.Read.{Read}
 abbrev pub byteAt : List ℕ → ℕ → ℕ
 byteAt bytes at = getD bytes at 0
 
--- a number of so many bytes from a place on, "low byte first"
+-- a number of some bytes from a place on, "low byte first"
 unfoldable pub low : ℕ → List ℕ → ℕ → ℕ
 low zero bytes at = 0
 low (suc more) bytes at = byteAt bytes at + 256 * low more bytes (at + 1)

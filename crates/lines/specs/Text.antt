@@ -22,7 +22,7 @@ NEWLINE = 10
 abbrev pub digit : ℕ → ℕ
 digit d = 48 + d
 
--- the decimal digits of n, of which there are at most so many, in front of those behind
+-- the decimal digits of n, of which there are at most as many as steps are left, in front of those behind
 unfoldable pub digitsFrom : ℕ → ℕ → List ℕ → List ℕ
 digitsFrom zero n behind = behind
 digitsFrom (suc left) n behind = if ltb n 10 then digit n ∷ behind else digitsFrom left (n / 10) (digit (n % 10) ∷ behind)

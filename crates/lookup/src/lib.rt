@@ -12,7 +12,7 @@ use state::Looked;
 use state::Slot;
 use state::State;
 
-// The walk along the chain stands here, because `search::find` takes the table by value, which copies it.
+// The walk along the chain stands here: a function of its own would take the table by value, which copies it.
 pub fn lookup(mut t: State, key: CacheKey) -> Looked
     ensures { λ r. ⌜ lookedAfter r ≡ lookupRule t key ⌝ }
 {

@@ -1,5 +1,5 @@
--- The rules of resize and reclaim one step on and at their ends, each as an equation on plain variables, and what the code's answers tell
--- of a rule. Assumes nothing.
+-- The rules of resize's pins and restoring one step on and at their ends, each as an equation on plain variables, and what the code's answers
+-- tell of a rule. Assumes nothing.
 use Prim.Native.Nat.{ℕ, zero, suc, max, _+_, _-_, _*_, _/_, _≤_, _<_}
 use mathlib.Core.Path.{_≡_, refl, sym, _∙_, ap}
 use mathlib.Core.Bool.{Bool, true, false, not, _&&_, _||_}

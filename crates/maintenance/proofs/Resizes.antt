@@ -23,7 +23,7 @@ use Rattle.state.specs.Fresh.{sound, fresh}
 use Rattle.maintenance.specs.Answers.{unchanged, busyNow, resized, Resizing}
 use Rattle.maintenance.specs.Pins.{pinsClean, raised}
 use Rattle.maintenance.specs.Restore.{candidate}
-use Rattle.maintenance.specs.Move.{Moving, movingOf, leavePinned, dropOldest, restoreRest, moveRest, inherit, remake}
+use Rattle.maintenance.specs.Move.{movingOf, leavePinned, dropOldest, restoreRest, moveRest, inherit, remake}
 use Rattle.maintenance.specs.Resize.{listed, unlessRefused, freshStart, remakeOrBusy, resizeTo, resizeSteps, resize}
 use Rattle.maintenance.proofs.Moves.{take-same}
 use Rattle.maintenance.specs.Parts.{tried, oldAnswer, remadeAnswer}

@@ -14,7 +14,7 @@ unfoldable pub pinCount : List ℕ → ℕ
 pinCount [] = 0
 pinCount (p ∷ ps) = if eqb p 0 then pinCount ps else pinCount ps + 1
 
--- "resize has a pin on one" that is not clean: whether none of so many slots, from `slot` on, is such
+-- "resize has a pin on one" that is not clean: whether none of the slots left, from `slot` on, is such
 unfoldable pub pinsClean : ℕ → State → List ℕ → ℕ → Bool
 pinsClean zero t pins slot = true
 pinsClean (suc left) t pins slot = (unpinned pins slot || isClean (slotAt t slot)) && pinsClean left t pins (slot + 1)

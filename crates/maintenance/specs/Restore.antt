@@ -17,7 +17,8 @@ use Rattle.state.specs.Parts.{withSlot, withIndex, withHeap, withHeld}
 use Rattle.state.specs.Fresh.{fresh}
 use Rattle.eviction.specs.Victim.{unpinned}
 
--- `restore_clean` into the top of the stack; none where nothing is vacant
+-- `restore_clean` into the top of the stack; none where nothing is vacant. In a table that resize fills from a fresh one no test here can fail: the slot is
+-- the top, its chain has room, it has no place in the heap, and at most 256 are clean.
 unfoldable pub restoreInto : State → CacheKey → ℕ → Option ℕ → Try (Option State)
 restoreInto t key n none = ok none
 restoreInto t key n (some slot) = do
@@ -40,7 +41,7 @@ abbrev pub andOn : Option State → (State → Try (Option State)) → Try (Opti
 andOn none f = ok none
 andOn (some t) f = f t
 
--- the pinned keys of so many old slots, from `slot` on, are restored into t; none where one is refused
+-- the pinned keys of the old slots left, from `slot` on, are restored into t; none where one is refused
 unfoldable pub restorePinned : ℕ → State → List ℕ → ℕ → State → Try (Option State)
 restorePinned zero old pins slot t = ok (some t)
 restorePinned (suc left) old pins slot t =

@@ -3,7 +3,7 @@
 use Prim.Native.Nat.{ℕ, zero, suc, _-_, _<_, _≤_}
 use native.Mathlib.Omega.{arith}
 use mathlib.Core.Path.{_≡_, refl, sym, ap, _∙_}
-use mathlib.Core.Bool.{true, false}
+use mathlib.Core.Bool.{true}
 use mathlib.Core.Logic.{inl, inr}
 use mathlib.Core.List.{List}
 use mathlib.Core.Option.{some}
@@ -22,7 +22,6 @@ use Rattle.invariant.specs.Table.{Inv, Step}
 use Rattle.invariant.proofs.TableParts.{at-place, clean-len}
 use Rattle.invariant.proofs.TableReads.{oldest!, no-clean!, oldest-law, cold-law}
 use Rattle.invariant.proofs.StepLeave.{remove-step}
-use Rattle.maintenance_laws.specs.Remade.{too-many! }
 use Rattle.maintenance_laws.proofs.Loops.{Reaches}
 use Rattle.maintenance_laws.proofs.CalmTables.{not-present}
 use Rattle.maintenance_laws.proofs.SlotLeaves.{out-other, out-unclean, out-clean, out-was, less-out}

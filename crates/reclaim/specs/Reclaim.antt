@@ -33,7 +33,7 @@ abbrev pub orEnd : Taken → Option ℕ → (ℕ → Try Taken) → Try Taken
 orEnd b none f = ok b
 orEnd b (some slot) f = f slot
 
--- so many rounds more: a victim is looked for afresh and removed
+-- the rounds left: in each a victim is looked for afresh and removed
 unfoldable pub reclaimFrom : ℕ → List ℕ → Taken → Try Taken
 reclaimFrom zero pins b = ok b
 reclaimFrom (suc left) pins b = do

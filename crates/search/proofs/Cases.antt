@@ -25,7 +25,7 @@ use Rattle.state.specs.Reads.{peekFrom}
 use Rattle.state.proofs.Cases.{sound-sizes}
 
 -- ---- the walks along a chain, one step on, and at their end
-pub find-step : (n : ℕ) (t : State) (key : CacheKey) (s : ℕ) → 0 < n
+find-step : (n : ℕ) (t : State) (key : CacheKey) (s : ℕ) → 0 < n
     → findFrom n t key s
     ≡ (if eqb s NONE then ok none else
     if leb (t .capacity) s then refuse STOP else
@@ -36,7 +36,7 @@ unfolding findFrom
 find-step zero t key s l = absurd (omega arith)
 find-step (suc n) t key s l = rw (one-less n)
 
-pub find-end : (n : ℕ) (t : State) (key : CacheKey) (s : ℕ) → n ≤ 0 → findFrom n t key s ≡ (if eqb s NONE then ok none else refuse STOP)
+find-end : (n : ℕ) (t : State) (key : CacheKey) (s : ℕ) → n ≤ 0 → findFrom n t key s ≡ (if eqb s NONE then ok none else refuse STOP)
 unfolding findFrom
 find-end zero t key s l = refl
 find-end (suc n) t key s l = absurd (omega arith)

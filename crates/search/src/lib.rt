@@ -1,13 +1,13 @@
 // SPDX-FileCopyrightText: 2026 roolrz
 // SPDX-License-Identifier: Apache-2.0
 
-// state/mod.rs, what searches a key's chain: find (lookup in crate lookup, and access in crate load, make the same walk themselves) and peek_clean.
-// Every function works on any table.
+// state/mod.rs, what the searches of a key's chain share, and peek_clean. Lookup (crate lookup) and access (crate load) walk the chain themselves:
+// a function of its own would take the table by value, which copies it. Every function works on any table.
 ghost use mathlib.Core.Path.{_≡_};
 ghost use Rattle.eviction.specs.Answers.{movedOf as heapMovedOf};
 ghost use Rattle.state.specs.Slots.{occupied, cleanWith};
 ghost use Rattle.state.specs.Answers.{foundAnswer};
-ghost use Rattle.state.specs.Find.{findKey, touchNext};
+ghost use Rattle.state.specs.Find.{touchNext};
 ghost use Rattle.state.specs.Reads.{peekClean};
 use basics::Done;
 use eviction::EvictionHeap;
@@ -48,45 +48,6 @@ pub fn touch_next(capacity: usize, heap: EvictionHeap, slot: usize, last: u64) -
         };
     }
     sift::touch(heap, capacity, slot, last + 1)
-}
-
-// The slot of the key's chain that holds the key, clean or loading.
-pub fn find(t: State, key: CacheKey) -> Found
-    ensures { λ r. ⌜ foundAnswer r ≡ findKey t key ⌝ }
-{
-    if !state::sound(
-        t.capacity,
-        t.index.buckets,
-        t.index.free_len,
-        t.eviction.len,
-    ) {
-        return Found::Refused(basics::STOP);
-    }
-    let mut slot = index::head(&t.index.heads, t.index.buckets, key);
-    let mut left: usize = chains::MAX_CHAIN;
-    while 0 < left {
-        if slot == basics::NO_SLOT {
-            return Found::Nothing;
-        }
-        if t.capacity <= slot {
-            return Found::Refused(basics::STOP);
-        }
-        let entry = t.slots[slot];
-        if !holds_key(entry) {
-            return Found::Refused(basics::STOP);
-        }
-        let held = entry.key;
-        if held.same(key) {
-            return Found::At(slot);
-        }
-        slot = index::next_in_chain(&t.index.next, slot);
-        left -= 1;
-    }
-    if slot == basics::NO_SLOT {
-        Found::Nothing
-    } else {
-        Found::Refused(basics::STOP)
-    }
 }
 
 // The slot of the key's chain that is clean with the key; a loading one is passed.

@@ -35,7 +35,7 @@ lineAfter n a = lineOf n (a .said) (cleanOf (a .standing)) (loadingOf (a .standi
 unfoldable pub orEnd : Bool → Standing → ℕ → Printed → Printed
 orEnd bad s n rest = if bad then printed s n true [] else rest
 
--- the records at the front of the bytes, at most so many; n is the number of the first
+-- the records at the front of the bytes, as many as steps are left; n is the number of the first
 unfoldable pub runFrom : ℕ → Standing → ℕ → List ℕ → Printed
 runFrom zero s n bytes = printed s n false []
 runFrom (suc left) s n bytes =
@@ -75,7 +75,7 @@ ROOM = LINE * 2048
 abbrev pub andThen : Printed → (Standing → ℕ → List ℕ) → List ℕ
 andThen p rest = p .text ++ (if p .ended then [] else rest (p .standing) (p .number))
 
--- at most so many blocks of the input; a short one is the last
+-- the blocks of the input, as many as steps are left; a short one is the last
 unfoldable pub inBlocks : ℕ → Standing → ℕ → List ℕ → List ℕ
 inBlocks zero s n input = []
 inBlocks (suc left) s n input =

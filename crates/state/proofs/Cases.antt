@@ -1,7 +1,7 @@
 -- What the proofs of the table's functions share and callers cite: the first test, answers of callees, tokens, and the ends of `new`. Assumes nothing.
 use Prim.Native.Nat.{ℕ, _≤_, _<_}
 use mathlib.Core.Path.{_≡_, refl, sym, _∙_, ap}
-use mathlib.Core.Bool.{true, false, not, _&&_}
+use mathlib.Core.Bool.{true, false, _&&_}
 use mathlib.Core.Option.{Option}
 use native.Mathlib.Omega.{arith}
 use lib.Dec.{leb, ltb, eqb}
@@ -30,7 +30,7 @@ use Rattle.state.specs.declared.State.{State}
 use Rattle.state.specs.declared.LoadToken.{LoadToken}
 use Rattle.state.specs.declared.Found.{Found}
 use Rattle.state.specs.Slots.{slotAt}
-use Rattle.state.specs.Answers.{told, foundAnswer}
+use Rattle.state.specs.Answers.{foundAnswer}
 use Rattle.state.specs.Fresh.{empty, fresh, noTable, new, soundSizes}
 use Rattle.state.specs.Tokens.{loadsFor, outstanding}
 

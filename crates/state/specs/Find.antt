@@ -26,7 +26,7 @@ findFrom (suc left) t key slot =
     if sameKey (slotAt t slot .key) key then ok (some slot) else
     findFrom left t key (nextOf (t .index) slot)
 
--- `find` from the head of the key's chain, after the first test
+-- `find` from the head of the key's chain, after the first test (which lookup and access have made before they come here, so it cannot fail there)
 unfoldable pub findKey : State → CacheKey → Try (Option ℕ)
 findKey t key = do
   need (sound t) STOP

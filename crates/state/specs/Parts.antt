@@ -51,7 +51,8 @@ countProgress k = countsOf (k .hits) (k .misses) (k .evictions) (more (k .«in_p
 abbrev pub countBusy : Counters → Counters
 countBusy k = countsOf (k .hits) (k .misses) (k .evictions) (k .«in_progress») (more (k .«capacity_busy»))
 
--- a slot's key leaves: out of its chain, and onto the stack
+-- a slot's key leaves: out of its chain, and onto the stack. Behind `removeIndex` two tests of `releaseIndex` cannot fail: the slot is below the capacity
+-- and links to nothing.
 unfoldable pub vacate : ℕ → Index → CacheKey → ℕ → Try Index
 vacate c ix key slot = do
   cut ← removeIndex c ix key slot

@@ -13,7 +13,8 @@ use Rattle.state.specs.Parts.{withSlot, withIndex, withHeap, withCounter
 use Rattle.state.specs.Answers.{After, told, unlessRefused}
 use Rattle.state.specs.Fresh.{sound}
 
--- `detach_clean`: out of the heap and its chain, onto the stack
+-- `detach_clean`: out of the heap and its chain, onto the stack. Its first two tests cannot fail behind `needClean`; they can in reclaim and resize, where
+-- the heap names the slot.
 unfoldable pub detachClean : State → ℕ → Try State
 detachClean t slot = do
   need (ltb slot (t .capacity)) STOP

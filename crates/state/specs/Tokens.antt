@@ -1,4 +1,4 @@
--- `validate`, `publish` and `abort`.
+-- `publish` and `abort`, and when a load is outstanding, which `validate` asks too.
 use Prim.Native.Nat.{_+_, _-_}
 use mathlib.Core.Bool.{Bool, not, _&&_}
 use lib.Dec.{ltb, leb, eqb}

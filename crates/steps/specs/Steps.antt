@@ -98,7 +98,7 @@ sayPinned s slot pin (refuse n) = says s (Said.Refused n)
 unfoldable pub stepPin : Standing → Record → Stepped
 stepPin s r = sayPinned s (r .number) (r .allow) (needClean (s .state) (r .number))
 
--- 8: "A pin goes with its key", to the slot that resize's list gives it: so many slots more, from `slot` on
+-- 8: "A pin goes with its key", to the slot that resize's list gives it: for the slots left, from `slot` on
 unfoldable pub movePins : ℕ → List ℕ → List ℕ → ℕ → List ℕ → List ℕ
 movePins zero old list slot pins = pins
 movePins (suc left) old list slot pins =

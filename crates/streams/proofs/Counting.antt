@@ -1,6 +1,6 @@
 -- A count within a list counts its bytes. Assumes nothing.
 use Prim.Native.Nat.{ℕ, _≤_}
-use mathlib.Core.Path.{_≡_, sym}
+use mathlib.Core.Path.{sym}
 use mathlib.Core.List.{List}
 use lib.ListN.{length}
 use lib.Seq.{length-take-le}

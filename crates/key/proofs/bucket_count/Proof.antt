@@ -7,7 +7,7 @@ use lib.Dec.{T}
 use lib.ListN.{length, getD, replicate}
 use native.Mathlib.Omega.{arith}
 use borrow.Author.Needs.{needs}
-use Rattle.basics.specs.Try.{Try, ok, refuse}
+use Rattle.basics.specs.Try.{ok, refuse}
 use Rattle.basics.specs.declared.Done.{Done}
 use Rattle.basics.specs.Answers.{doneAnswer}
 use Rattle.basics.specs.Capacity.{needCapacity}

@@ -12,7 +12,7 @@ use Rattle.ledger.specs.Expect.{exactly, vacancy, oneGoes, expect}
 use Rattle.ledger.specs.Opened.{opened}
 use Rattle.ledger.proofs.Samples.Words.{key, held}
 
--- so many clean keys, each with its own slot and last use; their numbers step by `step`
+-- n clean keys, each with its own slot and last use; their numbers step by `step`
 unfoldable many : ℕ → ℕ → List Held
 many zero step = []
 many (suc n) step = held (n * step) n true (n + 1) ∷ many n step

@@ -1,6 +1,6 @@
 -- `CacheKey::bucket` meets its contract: two sums that wrap are one sum that wraps. Assumes nothing.
 use Prim.Native.Nat.{ℕ, _+_, _%_, _^_}
-use mathlib.Core.Path.{_≡_, _∙_, sym, ap}
+use mathlib.Core.Path.{_≡_, _∙_, ap}
 use native.Mathlib.Nat.{mod-add-mod, mod-zero}
 use borrow.Author.Needs.{needs}
 use Rattle.key.specs.declared.CacheKey.{CacheKey}
