@@ -1,5 +1,6 @@
 -- Demand 3, of the rules: every call answers as the ledger allows and keeps table and ledger in agreement, so it holds after every list of
 -- calls. Assumes nothing.
+use native.Mathlib.Omega.{arith}
 use mathlib.Core.Path.{_≡_, _∙_}
 use mathlib.Core.Bool.{not, _&&_}
 use mathlib.Core.List.{List, [], _∷_}
@@ -31,10 +32,10 @@ use Rattle.ledger.proofs.Calls.Resize.{resize-agrees}
 -- an answer that the ledger allows, and agreement after it
 call-agrees : (t : State) (l : Ledger) → Agree t l → (c : Call) → Fair l (event rules t c) → Allowed l (event rules t c) × Agree (after rules t c) (feed l (event rules t c))
 unfolding event after feed
-call-agrees t l a (access key allow pins) f = let g = access-good t l a key allow pins (f .uses) (f .generations) in (g .gives, g .agrees)
+call-agrees t l a (access key allow pins) f = let g = access-good t l a key allow pins (omega arith) (omega arith) in (g .gives, g .agrees)
 call-agrees t l a (publish k) f = publish-agrees t l a k (f .token)
 call-agrees t l a (abort k) f = abort-agrees t l a k (f .token)
-call-agrees t l a (lookup key) f = (tt, lookup-agrees t l a key (f .uses))
+call-agrees t l a (lookup key) f = (tt, lookup-agrees t l a key (omega arith))
 call-agrees t l a (remove slot) f = (tt, remove-agrees t l a slot)
 call-agrees t l a (detach slot) f = (tt, detach-agrees t l a slot)
 call-agrees t l a (resize asked pins list) f = let w = resize-agrees t l a pins asked list in (w .keeps, w .agrees)
@@ -73,4 +74,4 @@ module _ (t : State) (l : Ledger) (a : Agree t l) where
 
 pub demand3 : Demand3 rules
 unfolding ledgerOf
-demand3 c hp hs calls f = agree-kept (run rules (fresh c) calls) (feeds (begin c) (log rules (fresh c) calls)) (run-agrees (fresh c) (begin c) (agree-fresh c hp hs) calls f)
+demand3 c hp hs calls f = agree-kept (run rules (fresh c) calls) (feeds (begin c) (log rules (fresh c) calls)) (run-agrees (fresh c) (begin c) (agree-fresh c hp (omega arith)) calls f)

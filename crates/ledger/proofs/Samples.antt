@@ -5,4 +5,5 @@ pub mod Hits
 pub mod Sizes
 pub mod Anew
 pub mod Limits
+pub mod Ends
 pub mod Theorem
