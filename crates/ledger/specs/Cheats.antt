@@ -1,7 +1,7 @@
 -- "These cheats are shut out": machines that cheat, each by one call or a few. That the claim fails of them is proved in proofs/Cheats.antt.
 use Prim.Native.Nat.{ℕ}
 use mathlib.Core.Bool.{Bool, false}
-use mathlib.Core.List.{List, map}
+use mathlib.Core.List.{map}
 use lib.Dec.{ltb, eqb}
 use lib.ListN.{set}
 use Rattle.basics.specs.Try.{Try, ok, refuse, if_then_else_}

@@ -10,7 +10,6 @@ use mathlib.Core.List.{List, [], _∷_, _++_}
 use lib.ListN.{replicate}
 use Rattle.basics.specs.Try.{Try, ok}
 use Rattle.basics.specs.Numbers.{MAX}
-use Rattle.basics.specs.Lists.{some?}
 use Rattle.basics.specs.Answers.{Fine, done}
 use Rattle.basics.proofs.Members.{In, here, in-none, in-case}
 use Rattle.state.specs.declared.State.{State}
@@ -19,7 +18,7 @@ use Rattle.state.specs.Answers.{Given, reserved}
 use Rattle.state.specs.Fresh.{fresh}
 use Rattle.ledger.specs.Calls.{Machine, Call, access, abort, Event, accessed, aborted, rules, event, after, run, log}
 use Rattle.ledger.specs.Ledger.{Ledger, begin, feed, feeds}
-use Rattle.ledger.specs.Expect.{sameToken, wasGiven, outstanding, expectEnd}
+use Rattle.ledger.specs.Expect.{wasGiven, outstanding, expectEnd}
 use Rattle.ledger.specs.Claim.{Fair, FairAll, ledgerOf, Kept, Demand3}
 use Rattle.ledger.specs.Opened.{opened}
 use Rattle.ledger.proofs.Keys.Lists.{true-T}
@@ -80,6 +79,7 @@ nth slot n = token slot n 1 n
 abbrev loads : ℕ → ℕ → List LoadToken → List LoadToken → Ledger
 loads slot n given ended = record { capacity = 256; held = held 1 slot false n ∷ []; uses = n; generations = n; given = nth slot n ∷ given; ended = ended }
 
+-- the tokens that ended have generations to n
 abbrev Past : ℕ → List LoadToken → Type 0
 Past n ended = (k : LoadToken) → In k ended → k .generation ≤ n
 
