@@ -1,7 +1,13 @@
 // What bench/ times of the port: a run sheet through the calls, one after the other on one table in a local. Only the calls that are timed
 // are taken, and no line is written. The local is an answer of access, so that access, the most frequent call, hands its table back to where it
 // stays: that is one copy of the table less than a local of the type State costs.
-ghost use Prim.Native.Nat.{_<_, _≤_, _^_};
+ghost use mathlib.Core.Path.{_≡_};
+ghost use Prim.Native.Nat.{min};
+ghost use Rattle.basics.specs.Answers.{doneAnswer};
+ghost use Rattle.state.specs.Answers.{accessAnswer, foundAnswer};
+ghost use Rattle.maintenance.specs.Answers.{sizeAnswer};
+ghost use Rattle.bench.specs.Sum.{plus, wordOf, accessNumber, doneNumber, foundNumber, sizeNumber};
+ghost use Rattle.bench.specs.Run.{noToken, checksum};
 use basics::Done;
 use key::CacheKey;
 use maintenance::Maintenance;
@@ -17,7 +23,9 @@ struct Sum {
     second: u64,
 }
 
-fn add(sum: Sum, number: u64) -> Sum {
+fn add(sum: Sum, number: u64) -> Sum
+    ensures { λ r. ⌜ r ≡ plus sum number ⌝ }
+{
     let first = std::num::wrapping_add_u64(sum.first, number);
     Sum {
         first: first,
@@ -26,11 +34,15 @@ fn add(sum: Sum, number: u64) -> Sum {
 }
 
 // A word of the answer and its number, as one number.
-fn word(word: u64, number: usize) -> u64 {
+fn word(word: u64, number: usize) -> u64
+    ensures { λ r. ⌜ r ≡ wordOf word number ⌝ }
+{
     std::num::wrapping_add_u64(word, number as u64)
 }
 
-fn of_access(answer: Access) -> u64 {
+fn of_access(answer: Access) -> u64
+    ensures { λ r. ⌜ r ≡ accessNumber (accessAnswer answer) ⌝ }
+{
     match answer {
         Access::Hit(slot) => word(1000, slot),
         Access::LoadInProgress => 2000,
@@ -46,14 +58,18 @@ fn of_access(answer: Access) -> u64 {
     }
 }
 
-fn of_done(answer: Done) -> u64 {
+fn of_done(answer: Done) -> u64
+    ensures { λ r. ⌜ r ≡ doneNumber (doneAnswer answer) ⌝ }
+{
     match answer {
         Done::Done => 6000,
         Done::Refused(why) => why as u64,
     }
 }
 
-fn of_found(answer: Found) -> u64 {
+fn of_found(answer: Found) -> u64
+    ensures { λ r. ⌜ r ≡ foundNumber (foundAnswer answer) ⌝ }
+{
     match answer {
         Found::At(slot) => word(1000, slot),
         Found::Nothing => 7000,
@@ -61,7 +77,9 @@ fn of_found(answer: Found) -> u64 {
     }
 }
 
-fn of_maintenance(answer: Maintenance) -> u64 {
+fn of_maintenance(answer: Maintenance) -> u64
+    ensures { λ r. ⌜ r ≡ sizeNumber (sizeAnswer answer) ⌝ }
+{
     match answer {
         Maintenance::Unchanged => 8000,
         Maintenance::Busy => 5000,
@@ -70,7 +88,9 @@ fn of_maintenance(answer: Maintenance) -> u64 {
     }
 }
 
-fn no_token() -> LoadToken {
+fn no_token() -> LoadToken
+    ensures { λ r. ⌜ r ≡ noToken ⌝ }
+{
     let none = CacheKey {
         file: 0,
         kind: 0,
@@ -86,7 +106,7 @@ fn no_token() -> LoadToken {
 
 // How many pin bytes are lent: one for each slot of a table.
 fn lent(capacity: usize) -> usize
-    ensures { λ r. ⌜ r ≤ 256 ⌝ }
+    ensures { λ r. ⌜ r ≡ min capacity 256 ⌝ }
 {
     if capacity < basics::MAX_CAPACITY {
         return capacity;
@@ -95,10 +115,10 @@ fn lent(capacity: usize) -> usize
 }
 
 // The sheet's records, each read as three numbers of 8 bytes, low byte first. Answers with a checksum of all that the calls answered and of
-// the counts at the end, which bench/ compares with the Rust's; the contract does not tell it again, since each call has its own.
+// the counts at the end, which bench/ compares with the Rust's.
 #[no_mangle]
 pub extern "C" fn tallboycrow_bench(sheet: &[u64]) -> u64
-    ensures { λ r. ⌜ r < 2 ^ 64 ⌝ }
+    ensures { λ r. ⌜ r ≡ checksum (now (sheet .entry)) ⌝ }
 {
     let started = State::try_new(1);
     let first = started.state;

@@ -1,14 +1,21 @@
--- `bench::tallboycrow_bench` meets its contract. Assumes nothing.
-use Prim.Native.Nat.{_+_, _*_, _≤_}
-use mathlib.Core.Path.{sym}
-use lib.ListN.{length}
+-- `bench::tallboycrow_bench` meets its contract: the records that are left, from what stands, come to what the sheet comes to. Assumes nothing.
+use Prim.Native.Nat.{_+_, _*_, _/_, _≤_}
+use mathlib.Core.Path.{_≡_, sym, _∙_, ap}
+use mathlib.Core.Logic.{⊎-elim}
+use native.Mathlib.Omega.{arith}
+use lib.ListN.{length, replicate}
 use lib.Seq.{length-take-le}
 use borrow.Author.Needs.{needs}
+use Rattle.basics.specs.Numbers.{NONE}
+use Rattle.state.specs.Answers.{accessAnswer}
+use Rattle.bench.specs.Sum.{accessNumber}
+use Rattle.bench.specs.Run.{running, start, runFrom, total, checksum}
+use Rattle.bench.proofs.Cases.{run-end, run-step, fits-on, put, unput, starts, total-told, new-goes, access-goes, publish-goes, abort-goes, lookup-goes, resize-goes, reclaim-goes}
 use Rattle.bench.proofs.tallboycrow_bench.Statement.{statement}
 use Rattle.bench.proofs.tallboycrow_bench.Tie as tie
 
 abbrev Inv-loop : tie.InvT-loop
-Inv-loop sheet held₀ tokens₀ pins sum₀ at₀ left₀ held tokens sum at left = at + left * 3 ≤ length sheet
+Inv-loop sheet held₀ tokens₀ pins sum₀ at₀ left₀ held tokens sum at left = (at + left * 3 ≤ length sheet) × (runFrom left sheet at (running (held .state) tokens sum) ≡ runFrom (length sheet / 3) sheet 0 start)
 
 abbrev μ-loop : tie.MeasureT-loop
 μ-loop sheet held₀ tokens₀ pins sum₀ at₀ left₀ held tokens sum at left = left
@@ -20,7 +27,7 @@ no-token-requires : tie.Need-no-token-requires Inv-loop μ-loop
 no-token-requires c κs = search needs
 
 loop-holds : tie.Need-loop-holds Inv-loop μ-loop
-loop-holds c = search needs
+loop-holds c = (search needs, ap (runFrom _ _ 0) (starts (c .before .before .try-new .ensures) (c .no-token .ensures)))
 
 sub-left : tie.Need-sub-left Inv-loop μ-loop
 sub-left c = search needs
@@ -71,13 +78,13 @@ loop-less : tie.Need-loop-less Inv-loop μ-loop
 loop-less c = search needs
 
 loop-again : tie.Need-loop-again Inv-loop μ-loop
-loop-again c = search needs
+loop-again c = (fits-on _ _ _ (c .before .before .before .before .before .before .before .before .before .before .loop .inv .0) (c .before .before .before .before .before .before .before .before .before .loop-test .taken), sym (run-step _ _ _ _ (c .before .before .before .before .before .before .before .before .before .loop-test .taken) (new-goes _ _ _ _ _ _ (c .before .before .before .before .if1 .taken) (c .before .before .before .try-new2 .ensures) (c .before .of-done .ensures) (c .add .ensures))) ∙ c .before .before .before .before .before .before .before .before .before .before .loop .inv .1)
 
 array-share-prefix-pins : tie.Need-array-share-prefix-pins Inv-loop μ-loop
 array-share-prefix-pins c = search needs
 
 slice-aggregate-access : tie.Need-slice-aggregate-access Inv-loop μ-loop
-slice-aggregate-access c = sym (length-take-le _ _ (c .before .before .before .lent .ensures))
+slice-aggregate-access c = sym (length-take-le (c .before .before .before .lent .result) (replicate 256 0) (omega (arith, c .before .before .before .lent .ensures)))
 
 access-requires : tie.Need-access-requires Inv-loop μ-loop
 access-requires c κs = search needs
@@ -101,7 +108,9 @@ loop-less-2 : tie.Need-loop-less-2 Inv-loop μ-loop
 loop-less-2 c = search needs
 
 loop-again-2 : tie.Need-loop-again-2 Inv-loop μ-loop
-loop-again-2 c = search needs
+loop-again-2 c =
+    let e : c .before .before .match .answer ≡ c .before .before .before .access .result .answer = ⊎-elim (λ w. w .4 ∙ sym (w .1 .given .1)) (λ w. w .2) (c .before .before .match .came) in
+    (fits-on _ _ _ (c .before .before .before .before .before .before .before .before .before .before .before .before .loop .inv .0) (c .before .before .before .before .before .before .before .before .before .before .before .loop-test .taken), sym (run-step _ _ _ _ (c .before .before .before .before .before .before .before .before .before .before .before .loop-test .taken) (access-goes _ _ _ _ _ _ (c .before .before .before .before .before .before .if1 .left) (c .before .before .before .before .before .if2 .taken) (c .before .before .before .before .before .before .before .lent .ensures) (c .before .before .before .access .ensures) (⊎-elim (λ w. w .3 ∙ sym (put _ _ (w .1 .given .1))) (λ w. w .1 ∙ sym (unput _ _ (c .before .before .before .access .result .answer) (w .0 .keys2))) (c .before .before .match .came)) (c .before .of-access .ensures ∙ ap (λ a. accessNumber (accessAnswer a)) e) (c .add2 .ensures))) ∙ c .before .before .before .before .before .before .before .before .before .before .before .before .loop .inv .1)
 
 mul-token : tie.Need-mul-token Inv-loop μ-loop
 mul-token c = search needs
@@ -122,7 +131,7 @@ loop-less-3 : tie.Need-loop-less-3 Inv-loop μ-loop
 loop-less-3 c = search needs
 
 loop-again-3 : tie.Need-loop-again-3 Inv-loop μ-loop
-loop-again-3 c = search needs
+loop-again-3 c = (fits-on _ _ _ (c .before .before .before .before .before .before .before .before .before .before .before .before .before .loop .inv .0) (c .before .before .before .before .before .before .before .before .before .before .before .before .loop-test .taken), sym (run-step _ _ _ _ (c .before .before .before .before .before .before .before .before .before .before .before .before .loop-test .taken) (publish-goes _ _ _ _ _ _ (c .before .before .before .before .before .before .before .if1 .left) (c .before .before .before .before .before .before .if2 .left) (c .before .before .before .before .before .if3 .taken) (c .before .before .before .publish .ensures) (c .before .of-done2 .ensures) (c .add3 .ensures))) ∙ c .before .before .before .before .before .before .before .before .before .before .before .before .before .loop .inv .1)
 
 mul-token-2 : tie.Need-mul-token-2 Inv-loop μ-loop
 mul-token-2 c = search needs
@@ -143,7 +152,7 @@ loop-less-4 : tie.Need-loop-less-4 Inv-loop μ-loop
 loop-less-4 c = search needs
 
 loop-again-4 : tie.Need-loop-again-4 Inv-loop μ-loop
-loop-again-4 c = search needs
+loop-again-4 c = (fits-on _ _ _ (c .before .before .before .before .before .before .before .before .before .before .before .before .before .before .loop .inv .0) (c .before .before .before .before .before .before .before .before .before .before .before .before .before .loop-test .taken), sym (run-step _ _ _ _ (c .before .before .before .before .before .before .before .before .before .before .before .before .before .loop-test .taken) (abort-goes _ _ _ _ _ _ (c .before .before .before .before .before .before .before .before .if1 .left) (c .before .before .before .before .before .before .before .if2 .left) (c .before .before .before .before .before .before .if3 .left) (c .before .before .before .before .before .if4 .taken) (c .before .before .before .abort .ensures) (c .before .of-done3 .ensures) (c .add4 .ensures))) ∙ c .before .before .before .before .before .before .before .before .before .before .before .before .before .before .loop .inv .1)
 
 lookup-requires : tie.Need-lookup-requires Inv-loop μ-loop
 lookup-requires c κs = search needs
@@ -158,19 +167,19 @@ loop-less-5 : tie.Need-loop-less-5 Inv-loop μ-loop
 loop-less-5 c = search needs
 
 loop-again-5 : tie.Need-loop-again-5 Inv-loop μ-loop
-loop-again-5 c = search needs
+loop-again-5 c = (fits-on _ _ _ (c .before .before .before .before .before .before .before .before .before .before .before .before .before .before .loop .inv .0) (c .before .before .before .before .before .before .before .before .before .before .before .before .before .loop-test .taken), sym (run-step _ _ _ _ (c .before .before .before .before .before .before .before .before .before .before .before .before .before .loop-test .taken) (lookup-goes _ _ _ _ _ _ (c .before .before .before .before .before .before .before .before .if1 .left) (c .before .before .before .before .before .before .before .if2 .left) (c .before .before .before .before .before .before .if3 .left) (c .before .before .before .before .before .if4 .left) (c .before .before .before .before .if5 .taken) (c .before .before .before .lookup .ensures) (c .before .of-found .ensures) (c .add5 .ensures))) ∙ c .before .before .before .before .before .before .before .before .before .before .before .before .before .before .loop .inv .1)
 
 array-share-prefix-pins-2 : tie.Need-array-share-prefix-pins-2 Inv-loop μ-loop
 array-share-prefix-pins-2 c = search needs
 
 slice-aggregate-resize : tie.Need-slice-aggregate-resize Inv-loop μ-loop
-slice-aggregate-resize c = sym (length-take-le _ _ (c .before .before .before .before .before .before .before .lent .ensures))
+slice-aggregate-resize c = sym (length-take-le (c .before .before .before .before .before .before .before .lent .result) (replicate 256 0) (omega (arith, c .before .before .before .before .before .before .before .lent .ensures)))
 
 array-borrow-prefix-list : tie.Need-array-borrow-prefix-list Inv-loop μ-loop
 array-borrow-prefix-list c = search needs
 
 slice-aggregate-resize-2 : tie.Need-slice-aggregate-resize-2 Inv-loop μ-loop
-slice-aggregate-resize-2 c = sym (length-take-le _ _ (c .before .before .before .before .before .before .before .before .lent .ensures))
+slice-aggregate-resize-2 c = sym (length-take-le (c .before .before .before .before .before .before .before .before .lent .result) (replicate 256 NONE) (omega (arith, c .before .before .before .before .before .before .before .before .lent .ensures)))
 
 resize-requires : tie.Need-resize-requires Inv-loop μ-loop
 resize-requires c κs = search needs
@@ -185,13 +194,13 @@ loop-less-6 : tie.Need-loop-less-6 Inv-loop μ-loop
 loop-less-6 c = search needs
 
 loop-again-6 : tie.Need-loop-again-6 Inv-loop μ-loop
-loop-again-6 c = search needs
+loop-again-6 c = (fits-on _ _ _ (c .before .before .before .before .before .before .before .before .before .before .before .before .before .before .before .before .before .before .loop .inv .0) (c .before .before .before .before .before .before .before .before .before .before .before .before .before .before .before .before .before .loop-test .taken), sym (run-step _ _ _ _ (c .before .before .before .before .before .before .before .before .before .before .before .before .before .before .before .before .before .loop-test .taken) (resize-goes _ _ _ _ _ _ (c .before .before .before .before .before .before .before .before .before .before .before .before .if1 .left) (c .before .before .before .before .before .before .before .before .before .before .before .if2 .left) (c .before .before .before .before .before .before .before .before .before .before .if3 .left) (c .before .before .before .before .before .before .before .before .before .if4 .left) (c .before .before .before .before .before .before .before .before .if5 .left) (c .before .before .before .before .before .before .before .before .before .before .before .before .before .lent .ensures) (c .before .before .before .before .before .before .before .if6 .taken) (c .before .before .before .before .resize .ensures) (c .before .of-maintenance .ensures) (c .add6 .ensures))) ∙ c .before .before .before .before .before .before .before .before .before .before .before .before .before .before .before .before .before .before .loop .inv .1)
 
 array-share-prefix-pins-3 : tie.Need-array-share-prefix-pins-3 Inv-loop μ-loop
 array-share-prefix-pins-3 c = search needs
 
 slice-aggregate-reclaim : tie.Need-slice-aggregate-reclaim Inv-loop μ-loop
-slice-aggregate-reclaim c = sym (length-take-le _ _ (c .before .before .before .before .before .before .before .lent .ensures))
+slice-aggregate-reclaim c = sym (length-take-le (c .before .before .before .before .before .before .before .lent .result) (replicate 256 0) (omega (arith, c .before .before .before .before .before .before .before .lent .ensures)))
 
 reclaim-requires : tie.Need-reclaim-requires Inv-loop μ-loop
 reclaim-requires c κs = search needs
@@ -206,7 +215,7 @@ loop-less-7 : tie.Need-loop-less-7 Inv-loop μ-loop
 loop-less-7 c = search needs
 
 loop-again-7 : tie.Need-loop-again-7 Inv-loop μ-loop
-loop-again-7 c = search needs
+loop-again-7 c = (fits-on _ _ _ (c .before .before .before .before .before .before .before .before .before .before .before .before .before .before .before .before .loop .inv .0) (c .before .before .before .before .before .before .before .before .before .before .before .before .before .before .before .loop-test .taken), sym (run-step _ _ _ _ (c .before .before .before .before .before .before .before .before .before .before .before .before .before .before .before .loop-test .taken) (reclaim-goes _ _ _ _ _ _ (c .before .before .before .before .before .before .before .before .before .before .if1 .left) (c .before .before .before .before .before .before .before .before .before .if2 .left) (c .before .before .before .before .before .before .before .before .if3 .left) (c .before .before .before .before .before .before .before .if4 .left) (c .before .before .before .before .before .before .if5 .left) (c .before .before .before .before .before .before .before .before .before .before .before .lent .ensures) (c .before .before .before .before .before .if6 .left) (c .before .before .before .reclaim .ensures) (c .before .word .ensures) (c .add7 .ensures))) ∙ c .before .before .before .before .before .before .before .before .before .before .before .before .before .before .before .before .loop .inv .1)
 
 add-requires-8 : tie.Need-add-requires-8 Inv-loop μ-loop
 add-requires-8 c κs = search needs
@@ -227,7 +236,8 @@ add-requires-13 : tie.Need-add-requires-13 Inv-loop μ-loop
 add-requires-13 c κs = search needs
 
 returns : tie.Need-returns Inv-loop μ-loop
-returns c = search needs
+unfolding checksum
+returns c = total-told (c .before .before .before .before .before .before .before .before .before .loop .held .state) (c .before .before .before .before .before .before .before .before .before .loop .tokens) (c .before .before .before .before .before .before .before .before .before .loop .sum) (c .before .before .before .before .before .add8 .ensures) (c .before .before .before .before .add9 .ensures) (c .before .before .before .add10 .ensures) (c .before .before .add11 .ensures) (c .before .add12 .ensures) (c .add13 .ensures) ∙ ap total (sym (run-end _ _ _ _ (c .before .before .before .before .before .before .before .before .loop-test .left)) ∙ c .before .before .before .before .before .before .before .before .before .loop .inv .1)
 
 pub tallboycrow-bench-spec : {M : Type 1} → statement M
 tallboycrow-bench-spec =

@@ -1,0 +1,45 @@
+-- `bench::of_found` meets its contract. Assumes nothing.
+use Rattle.bench.specs.Sum.{foundNumber}
+use borrow.Author.Needs.{needs}
+use Rattle.bench.proofs.of_found.Statement.{statement}
+use Rattle.bench.proofs.of_found.Tie as tie
+
+enum-known-answer : tie.Need-enum-known-answer
+enum-known-answer c = search needs
+
+word-requires : tie.Need-word-requires
+word-requires c κs = search needs
+
+enum-told : tie.Need-enum-told
+enum-told c = search needs
+
+enum-known-answer-2 : tie.Need-enum-known-answer-2
+enum-known-answer-2 c = search needs
+
+cast-result : tie.Need-cast-result
+cast-result c = search needs
+
+returns : tie.Need-returns
+unfolding foundNumber
+returns c = rw (c .word .ensures, c .before .before .answer .given .1)
+
+returns-2 : tie.Need-returns-2
+unfolding foundNumber
+returns-2 c = rw (c .enum-told .given .1)
+
+returns-3 : tie.Need-returns-3
+unfolding foundNumber
+returns-3 c = rw (c .before .answer2 .given .1)
+
+pub of-found-spec : {M : Type 1} → statement M
+of-found-spec =
+    tie.close
+    (tie.spec
+    enum-known-answer
+    word-requires
+    enum-told
+    enum-known-answer-2
+    cast-result
+    returns
+    returns-2
+    returns-3)
