@@ -111,7 +111,7 @@ keyOf head file index = record { file = file; kind = head / 65536 % 256; index =
 unfoldable pub runRecord : Running → ℕ → ℕ → ℕ → Running
 runRecord x head file index = runCode x (codeOf head) (placeOf head) (numberOf head) (keyOf head file index)
 
--- so many records more, from `at` on
+-- the records left, from `at` on
 unfoldable pub runFrom : ℕ → List ℕ → ℕ → Running → Running
 runFrom zero sheet at x = x
 runFrom (suc left) sheet at x = runFrom left sheet (at + 3) (runRecord x (getD sheet at 0) (getD sheet (at + 1) 0) (getD sheet (at + 2) 0))
