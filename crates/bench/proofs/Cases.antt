@@ -1,19 +1,18 @@
--- The records of a sheet one by one: a law for each call, of what the code knows of it. Assumes nothing.
+-- A sheet one record after the other: a law for each call, from what the code knows of its answer. Assumes nothing.
 use Prim.Native.Nat.{ℕ, zero, suc, _+_, _-_, _*_, _≤_, _<_, min}
 use native.Mathlib.Omega.{arith}
-use mathlib.Core.Path.{_≡_, refl, sym, _∙_}
+use mathlib.Core.Path.{_≡_, refl}
 use mathlib.Core.Bool.{Bool, true, false}
 use mathlib.Core.Logic.{⊎-elim}
 use mathlib.Core.Option.{Option}
 use mathlib.Core.List.{List, [], _∷_}
-use lib.ListN.{length, take, getD, set, replicate}
+use lib.ListN.{take, getD, set, replicate}
 use borrow.Author.Tests.{eq-eqb, ne-eqb}
 use types.Run.{OneOf}
 use denote.Enum.Declared.{tagOf}
 use Rattle.basics.specs.Numbers.{NONE}
 use Rattle.basics.specs.Answers.{Fine}
 use Rattle.basics.proofs.Tests.{one-less}
-use Rattle.key.specs.declared.CacheKey.{CacheKey}
 use Rattle.state.specs.declared.State.{State}
 use Rattle.state.specs.declared.LoadToken.{LoadToken}
 use Rattle.state.specs.declared.Access.{Access}
