@@ -1,0 +1,5 @@
+pub mod PinsStand
+pub mod CallsStand
+pub mod ResizeStands
+pub mod StepsStand
+pub mod Sheets

@@ -1,0 +1,222 @@
+-- Every record leaves what stands in order, and says only what its code can. Assumes nothing.
+use Prim.Native.Nat.{ℕ, _≤_, _^_}
+use native.Mathlib.Omega.{arith}
+use mathlib.Core.Path.{_≡_, refl, sym, ap, _∙_, subst}
+use mathlib.Core.Bool.{Bool, true, false, not, _&&_}
+use mathlib.Core.List.{List}
+use mathlib.Core.Option.{Option, none, some}
+use lib.Dec.{eqb, ltb, leb}
+use borrow.Author.Tests.{eqb-true, ltb-true, leb-true}
+use Rattle.basics.specs.Try.{Try, ok, refuse, if_then_else_}
+use Rattle.basics.specs.Lists.{some?}
+use Rattle.basics.specs.Refusals.{STALE}
+use Rattle.basics.specs.Capacity.{needCapacity}
+use Rattle.basics.specs.Answers.{Fine, done}
+use Rattle.basics.proofs.Tests.{is, yes!, no!, false-true, and-left}
+use Rattle.state.specs.declared.State.{State}
+use Rattle.state.specs.Answers.{Given, hit, inProgress, reserved, evicted, busy, After}
+use Rattle.state.specs.Fresh.{empty, fresh, new}
+use Rattle.state.specs.Access.{access}
+use Rattle.state.specs.Tokens.{publish, abort}
+use Rattle.state.specs.Lookup.{lookup}
+use Rattle.state.specs.Remove.{needClean, remove}
+use Rattle.reclaim.specs.Reclaim.{reclaim}
+use Rattle.maintenance.specs.Answers.{Size, unchanged, busyNow, resized}
+use Rattle.maintenance.specs.Resize.{resize}
+use Rattle.lines.specs.declared.Record.{Record}
+use Rattle.lines.specs.declared.Read.{Read}
+use Rattle.lines.specs.declared.Said.{Said}
+use Rattle.lines.specs.Record.{byteAt, inRange, fieldsOf, readRecord}
+use Rattle.steps.specs.declared.Standing.{Standing}
+use Rattle.steps.specs.declared.Stepped.{Stepped}
+use Rattle.steps.specs.Standing.{start, afresh, withState, placeAt, lentPins, lentList, says}
+use Rattle.steps.specs.Steps.{sayNew, stepNew, sayAccess, accessOf, stepAccess, sayDone, sayToken, stepPublish, stepAbort, sayFound, stepLookup, sayRemoved, stepRemove, sayPinned, stepPin, saySize, resizeOf, stepResize, sayCount, reclaimOf, stepReclaim, stepCode, stepRecord, step}
+use Rattle.invariant.proofs.FreshTable.{fresh-valid}
+use Rattle.sheet_laws.specs.Orderly.{InOrder, Orderly, unmade!, made!, Counted}
+use Rattle.sheet_laws.specs.Refusals.{refusable, sayable, spentBy, Fair}
+use Rattle.sheet_laws.proofs.PinsStand.{lent-length, list-length, lent-same, no-pins}
+use Rattle.sheet_laws.proofs.CallsStand.{Leaves, pinsAfter, access-leaves, reclaim-leaves, publish-leaves, abort-leaves, lookup-leaves, remove-leaves, pin-leaves}
+use Rattle.sheet_laws.proofs.ResizeStands.{pinsMoved, resize-leaves}
+
+-- what stands is as it was
+stays : (s : Standing) (n code : ℕ) (said : Said) → Orderly s → Counted n (s .state) → sayable (spentBy n) code said ≡ true → Fair n code (says s said)
+stays s n code said o k e = record { orderly = o; counted = record { uses = omega (arith, k .uses); generations = omega (arith, k .generations) }; said = e }
+
+-- ── 1 ──
+new-fair : (s : Standing) (n : ℕ) → Orderly s → Counted n (s .state) → (r : Record) → Fair n 1 (stepNew s r)
+unfolding stepNew sayNew new needCapacity afresh fresh empty refusable some?
+new-fair s n o k r =
+    let c = r .number in
+    elim (is (ltb 0 c && leb c (2 ^ 62))) [
+      | no! e ↦ rw e (stays s n 1 (Said.Refused 1) o k refl)
+      | yes! e ↦ elim (is (leb c 256)) [
+        | no! q ↦ rw (e, q) (stays s n 1 (Said.Refused 2) o k refl)
+        | yes! q ↦
+            rw (e, q) (record {
+              orderly = made! refl (no-pins (fresh c) (fresh-valid c (ltb-true 0 c (and-left (ltb 0 c) (leb c (2 ^ 62)) e)) (leb-true c 256 q)));
+              counted = record { uses = omega arith; generations = omega arith };
+              said = refl;
+            })
+      ]
+    ]
+
+-- ── what a call's answer says ──
+module _ (s : Standing) (st : s .stands ≡ true) (n : ℕ) where
+  say-access : (place : ℕ) (u : State) (a : Try Given) → Leaves n 2 (s .pins) (record { table = u; answer = a }) → Fair n 2 (sayAccess s place u a)
+  unfolding sayAccess
+  say-access place u (ok (hit slot)) l = record { orderly = made! st (l .order); counted = l .counted; said = refl }
+  say-access place u (ok inProgress) l = record { orderly = made! st (l .order); counted = l .counted; said = refl }
+  say-access place u (ok (reserved t)) l = record { orderly = made! st (l .order); counted = l .counted; said = refl }
+  say-access place u (ok (evicted t)) l = record { orderly = made! st (l .order); counted = l .counted; said = refl }
+  say-access place u (ok busy) l = record { orderly = made! st (l .order); counted = l .counted; said = refl }
+  say-access place u (refuse m) l = record { orderly = made! st (l .order); counted = l .counted; said = l .answer }
+
+  say-done : (code : ℕ) (u : State) (a : Try Fine) → Leaves n code (s .pins) (record { table = u; answer = a }) → Fair n code (sayDone (withState s u) a)
+  unfolding sayDone
+  say-done code u (ok done) l = record { orderly = made! st (l .order); counted = l .counted; said = refl }
+  say-done code u (refuse m) l = record { orderly = made! st (l .order); counted = l .counted; said = l .answer }
+
+  say-token : (code : ℕ) (a : After Fine) (full : Bool) → Fair n code (says s (Said.Refused STALE)) → Leaves n code (s .pins) a → Fair n code (sayToken s a full)
+  unfolding sayToken
+  say-token code a true stale l = say-done code (a .table) (a .answer) l
+  say-token code a false stale l = stale
+
+  say-found : (u : State) (a : Try (Option ℕ)) → Leaves n 5 (s .pins) (record { table = u; answer = a }) → Fair n 5 (sayFound (withState s u) a)
+  unfolding sayFound
+  say-found u (ok (some slot)) l = record { orderly = made! st (l .order); counted = l .counted; said = refl }
+  say-found u (ok none) l = record { orderly = made! st (l .order); counted = l .counted; said = refl }
+  say-found u (refuse m) l = record { orderly = made! st (l .order); counted = l .counted; said = l .answer }
+
+  say-removed : (u : State) (slot : ℕ) (a : Try Fine) → Leaves n 6 (pinsAfter (s .pins) slot 0 a) (record { table = u; answer = a }) → Fair n 6 (sayRemoved (withState s u) slot a)
+  unfolding sayRemoved
+  say-removed u slot (ok done) l = record { orderly = made! st (l .order); counted = l .counted; said = refl }
+  say-removed u slot (refuse m) l = record { orderly = made! st (l .order); counted = l .counted; said = l .answer }
+
+  say-pinned : (slot : ℕ) (pin : Bool) (a : Try Bool) → Leaves n 7 (pinsAfter (s .pins) slot (if pin then 1 else 0) a) (record { table = s .state; answer = a }) → Fair n 7 (sayPinned s slot pin a)
+  unfolding sayPinned
+  say-pinned slot pin (ok b) l = record { orderly = made! st (l .order); counted = l .counted; said = refl }
+  say-pinned slot pin (refuse m) l = record { orderly = made! st (l .order); counted = l .counted; said = l .answer }
+
+  say-size : (u : State) (list : List ℕ) (a : Try Size) → Leaves n 8 (pinsMoved (s .pins) list a) (record { table = u; answer = a }) → Fair n 8 (saySize s u list a)
+  unfolding saySize
+  say-size u list (ok unchanged) l = record { orderly = made! st (l .order); counted = l .counted; said = refl }
+  say-size u list (ok busyNow) l = record { orderly = made! st (l .order); counted = l .counted; said = refl }
+  say-size u list (ok (resized c)) l = record { orderly = made! st (l .order); counted = l .counted; said = refl }
+  say-size u list (refuse m) l = record { orderly = made! st (l .order); counted = l .counted; said = l .answer }
+
+  say-count : (code : ℕ) (u : State) (count : ℕ) (a : Try Fine) → Leaves n code (s .pins) (record { table = u; answer = a }) → Fair n code (sayCount (withState s u) count a)
+  unfolding sayCount
+  say-count code u count (ok done) l = record { orderly = made! st (l .order); counted = l .counted; said = refl }
+  say-count code u count (refuse m) l = record { orderly = made! st (l .order); counted = l .counted; said = l .answer }
+
+-- ── 2 to 9 ──
+bit-small : (pin : Bool) → (if pin then 1 else 0) ≤ 1
+bit-small true = omega arith
+bit-small false = omega arith
+
+module _ (s : Standing) (st : s .stands ≡ true) (n : ℕ) (g : InOrder (s .state) (s .pins)) (k : Counted n (s .state)) (r : Record) where
+  access-fair : Fair n 2 (stepAccess s r)
+  unfolding stepAccess accessOf
+  access-fair =
+      let t = s .state in
+      let a = access t (r .key) (r .allow) (lentPins s) in
+      say-access s st n (r .place) (a .table) (a .answer) (access-leaves n t (s .pins) g k (lentPins s) (lent-length s g) (lent-same s g) (r .key) (r .allow))
+
+  stale : (code : ℕ) → refusable (spentBy n) code STALE ≡ true → Fair n code (says s (Said.Refused STALE))
+  stale code e = stays s n code (Said.Refused STALE) (made! st g) k e
+
+  publish-fair : Fair n 3 (stepPublish s r)
+  unfolding stepPublish refusable some?
+  publish-fair = let p = placeAt s (r .place) in say-token s st n 3 (publish (s .state) (p .token)) (p .full) (stale 3 refl) (publish-leaves n (s .state) (s .pins) g k (p .token))
+
+  abort-fair : Fair n 4 (stepAbort s r)
+  unfolding stepAbort refusable some?
+  abort-fair = let p = placeAt s (r .place) in say-token s st n 4 (abort (s .state) (p .token)) (p .full) (stale 4 refl) (abort-leaves n (s .state) (s .pins) g k (p .token))
+
+  lookup-fair : Fair n 5 (stepLookup s r)
+  unfolding stepLookup
+  lookup-fair = let a = lookup (s .state) (r .key) in say-found s st n (a .table) (a .answer) (lookup-leaves n (s .state) (s .pins) g k (r .key))
+
+  remove-fair : Fair n 6 (stepRemove s r)
+  unfolding stepRemove
+  remove-fair = let a = remove (s .state) (r .number) in say-removed s st n (a .table) (r .number) (a .answer) (remove-leaves n (s .state) (s .pins) g k (r .number))
+
+  pin-fair : Fair n 7 (stepPin s r)
+  unfolding stepPin
+  pin-fair = say-pinned s st n (r .number) (r .allow) (needClean (s .state) (r .number)) (pin-leaves n (s .state) (s .pins) g k (r .number) (if r .allow then 1 else 0) (bit-small (r .allow)))
+
+  resize-fair : Fair n 8 (stepResize s r)
+  unfolding stepResize resizeOf
+  resize-fair =
+      let t = s .state in
+      let a = resize t (r .number) (lentPins s) (lentList s) in
+      say-size s st n (a .table) (a .list) (a .answer) (resize-leaves t (s .pins) g (lentPins s) (lent-length s g) (lent-same s g) (lentList s) (list-length s g) (r .number) n k)
+
+  reclaim-fair : (code : ℕ) → Fair n code (stepReclaim s r)
+  unfolding stepReclaim reclaimOf
+  reclaim-fair code =
+      let t = s .state in
+      let a = reclaim t (r .number) (lentPins s) in
+      say-count s st n code (a .table) (a .count) (a .answer) (reclaim-leaves n t (s .pins) g k (lentPins s) (lent-length s g) (lent-same s g) code (r .number))
+
+  code-fair : (code : ℕ) → Fair n code (stepCode s r code)
+  unfolding stepCode
+  code-fair code =
+      elim (is (eqb code 2)) [
+        | yes! e ↦ rw (eqb-true code 2 e) access-fair
+        | no! e2 ↦ elim (is (eqb code 3)) [
+          | yes! e ↦ rw (eqb-true code 3 e) publish-fair
+          | no! e3 ↦ elim (is (eqb code 4)) [
+            | yes! e ↦ rw (eqb-true code 4 e) abort-fair
+            | no! e4 ↦ elim (is (eqb code 5)) [
+              | yes! e ↦ rw (eqb-true code 5 e) lookup-fair
+              | no! e5 ↦ elim (is (eqb code 6)) [
+                | yes! e ↦ rw (eqb-true code 6 e) remove-fair
+                | no! e6 ↦ elim (is (eqb code 7)) [
+                  | yes! e ↦ rw (eqb-true code 7 e) pin-fair
+                  | no! e7 ↦ elim (is (eqb code 8)) [
+                    | yes! e ↦ rw (eqb-true code 8 e) resize-fair
+                    | no! e8 ↦ rw (e2, e3, e4, e5, e6, e7, e8) (reclaim-fair code)
+                  ]
+                ]
+              ]
+            ]
+          ]
+        ]
+      ]
+
+-- ── every record ──
+stood : {A : Type 0} (b : Bool) (x y : A) → b ≡ true → (if not b then x else y) ≡ y
+stood true x y e = refl
+stood false x y e = absurd (false-true e)
+
+unstood : {A : Type 0} (b : Bool) (x y : A) → b ≡ false → (if not b then x else y) ≡ x
+unstood false x y e = refl
+unstood true x y e = absurd (false-true (sym e))
+
+start-unmade : start .stands ≡ false
+unfolding start
+start-unmade = refl
+
+later-fair : (s : Standing) (n : ℕ) → Orderly s → Counted n (s .state) → (r : Record) → Fair n (r .code) (if not (s .stands) then says s Said.Bad else stepCode s r (r .code))
+later-fair s n (unmade! e) k r =
+    let z : s .stands ≡ false = ap (λ (x : Standing). x .stands) e ∙ start-unmade in
+    subst (λ (a : Stepped). Fair n (r .code) a) (sym (unstood (s .stands) (says s Said.Bad) (stepCode s r (r .code)) z)) (stays s n (r .code) Said.Bad (unmade! e) k refl)
+later-fair s n (made! st g) k r =
+    subst (λ (a : Stepped). Fair n (r .code) a) (sym (stood (s .stands) (says s Said.Bad) (stepCode s r (r .code)) st)) (code-fair s st n g k r (r .code))
+
+record-fair : (s : Standing) (n : ℕ) → Orderly s → Counted n (s .state) → (r : Record) → Fair n (r .code) (stepRecord s (Read.Whole r))
+unfolding stepRecord
+record-fair s n o k r =
+    elim (is (eqb (r .code) 1)) [
+      | yes! e ↦ rw e (subst (λ (c : ℕ). Fair n c (stepNew s r)) (sym (eqb-true (r .code) 1 e)) (new-fair s n o k r))
+      | no! e ↦ rw e (later-fair s n o k r)
+    ]
+
+pub step-fair : (s : Standing) (n : ℕ) → Orderly s → Counted n (s .state) → (bytes : List ℕ) → Fair n (byteAt bytes 0) (step s bytes)
+unfolding step readRecord fieldsOf stepRecord
+step-fair s n o k bytes =
+    elim (is (inRange bytes)) [
+      | yes! e ↦ rw e (record-fair s n o k (fieldsOf bytes))
+      | no! e ↦ rw e (stays s n (byteAt bytes 0) Said.Bad o k refl)
+    ]
