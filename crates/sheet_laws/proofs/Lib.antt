@@ -3,3 +3,4 @@ pub mod CallsStand
 pub mod ResizeStands
 pub mod StepsStand
 pub mod Sheets
+pub mod Samples

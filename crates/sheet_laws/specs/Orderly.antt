@@ -11,7 +11,7 @@ use Rattle.invariant.specs.Table.{Valid}
 use Rattle.steps.specs.declared.Standing.{Standing}
 use Rattle.steps.specs.Standing.{start}
 
--- a valid table, so one of 1 to 256 slots, and pins that are 0 or 1, a byte for each slot of the largest table: other than 0 only on a clean slot
+-- a valid table, so one of 1 to 256 slots; and its pins, a byte for each slot of the largest table, 0 or 1, and 1 only on a clean slot
 pub record InOrder (t : State) (pins : List ℕ) : Type 0 where
   pub valid : Valid t
   pub size : length pins ≡ 256

@@ -1,4 +1,4 @@
--- The refusals that a record can say, by its code: 3, 4 and 10 are none of them, 7 only where a number may be spent, and 8 only where a record names a slot.
+-- The refusals that a record says, by its code: 3, 4 and 10 are none of them, 7 comes only where a number may be spent, and 8 only where the record names a slot.
 use Prim.Native.Nat.{ℕ, _+_, _≤_}
 use mathlib.Core.Path.{_≡_}
 use mathlib.Core.Bool.{Bool, true}
@@ -13,7 +13,7 @@ use Rattle.lines.specs.declared.Said.{Said}
 use Rattle.steps.specs.declared.Stepped.{Stepped}
 use Rattle.sheet_laws.specs.Orderly.{Orderly, Counted}
 
--- of each code; `spent` says whether a number may be
+-- those of each code; `spent` says whether a use number or a generation may be spent
 abbrev pub refusals : Bool → ℕ → List ℕ
 refusals spent code =
     if eqb code 1 then INVALID ∷ ALLOCATION ∷ [] else
@@ -30,7 +30,7 @@ refusals spent code =
 unfoldable pub refusable : Bool → ℕ → ℕ → Bool
 refusable spent code n = some? (eqb n) (refusals spent code)
 
--- whether it can say the word
+-- whether it can say the word: each but the other refusals
 abbrev pub sayable : Bool → ℕ → Said → Bool
 sayable spent code (Said.Made c) = true
 sayable spent code (Said.Hit slot) = true
@@ -46,7 +46,7 @@ sayable spent code (Said.Reclaimed n) = true
 sayable spent code (Said.Refused n) = refusable spent code n
 sayable spent code Said.Bad = true
 
--- a number is spent at 2^64 − 1, so before the record n none is, for n below it
+-- a number is spent at 2^64 − 1, so none is before the record of that number
 abbrev pub spentBy : ℕ → Bool
 spentBy n = leb MAX n
 
@@ -56,8 +56,8 @@ pub record Fair (n code : ℕ) (a : Stepped) : Type 0 where
   pub counted : Counted (n + 1) (a .standing .state)
   pub said : sayable (spentBy n) code (a .said) ≡ true
 
--- the record n of the code, refused by k: not by 3, 4 or 10; by 8 only where it names a slot to remove or to pin, so never where it resizes;
--- by 7 not before the record 2^64 − 1
+-- what a refusal by k of the record n tells: k is not 3, 4 or 10; 8 comes only of a slot to remove or to pin, so never of a resize;
+-- 7 does not come before the record 2^64 − 1
 pub record RefusedBy (n code k : ℕ) : Type 0 where
   pub pins : k ≡ PINS → ⊥
   pub list : k ≡ LIST → ⊥
