@@ -16,6 +16,7 @@ use Rattle.state.specs.declared.State.{State}
 use Rattle.state.specs.Slots.{slotAt, vacantSlot, isClean}
 use Rattle.maintenance.specs.Pins.{pinsClean}
 use Rattle.invariant.specs.Table.{Valid, Step}
+use Rattle.maintenance_laws.proofs.Lists.{all-same}
 use Rattle.steps.specs.declared.Standing.{Standing}
 use Rattle.steps.specs.Standing.{noPins, lentPins, lentList}
 use Rattle.steps.specs.Steps.{movePins}
@@ -49,19 +50,14 @@ all-clean (suc left) t pins k h =
     ]
 
 -- ── no pins ──
-zeros : (m x : ℕ) → _≡_ {A = ℕ} (getD (replicate m 0) x 0) 0
-zeros zero x = refl
-zeros (suc m) zero = refl
-zeros (suc m) (suc x) = zeros m x
-
 pub no-pins : (t : State) → Valid t → InOrder t noPins
 unfolding noPins
 no-pins t w =
-    let free : (x : ℕ) → unpinned (replicate 256 0) x ≡ false → ⊥ = λ x e. eqb-false (getD (replicate 256 0) x 0) 0 e (zeros 256 x) in
+    let free : (x : ℕ) → unpinned (replicate 256 0) x ≡ false → ⊥ = λ x e. eqb-false (getD (replicate 256 0) x 0) 0 e (all-same 256 x 0) in
     record {
       valid = w;
       size = length-replicate {A = ℕ} 256 0;
-      bit = λ x. omega (arith, zeros 256 x);
+      bit = λ x. omega (arith, all-same {A = ℕ} 256 x 0);
       low = λ x e. absurd (free x e);
       clean = λ x e. absurd (free x e);
     }

@@ -6,13 +6,13 @@ use mathlib.Core.Bool.{Bool, true, false, not, _&&_}
 use mathlib.Core.List.{List}
 use mathlib.Core.Option.{Option, none, some}
 use lib.Dec.{eqb, ltb, leb}
-use borrow.Author.Tests.{eqb-true, ltb-true, leb-true}
+use borrow.Author.Tests.{eqb-true, eqb-false, ltb-true, leb-true}
 use Rattle.basics.specs.Try.{Try, ok, refuse, if_then_else_}
 use Rattle.basics.specs.Lists.{some?}
 use Rattle.basics.specs.Refusals.{STALE}
 use Rattle.basics.specs.Capacity.{needCapacity}
 use Rattle.basics.specs.Answers.{Fine, done}
-use Rattle.basics.proofs.Tests.{is, yes!, no!, false-true, and-left}
+use Rattle.basics.proofs.Tests.{is, yes!, no!, and-left}
 use Rattle.state.specs.declared.State.{State}
 use Rattle.state.specs.Answers.{Given, hit, inProgress, reserved, evicted, busy, After}
 use Rattle.state.specs.Fresh.{empty, fresh, new}
@@ -28,9 +28,9 @@ use Rattle.lines.specs.declared.Read.{Read}
 use Rattle.lines.specs.declared.Said.{Said}
 use Rattle.lines.specs.Record.{byteAt, inRange, fieldsOf, readRecord}
 use Rattle.steps.specs.declared.Standing.{Standing}
-use Rattle.steps.specs.declared.Stepped.{Stepped}
 use Rattle.steps.specs.Standing.{start, afresh, withState, placeAt, lentPins, lentList, says}
-use Rattle.steps.specs.Steps.{sayNew, stepNew, sayAccess, accessOf, stepAccess, sayDone, sayToken, stepPublish, stepAbort, sayFound, stepLookup, sayRemoved, stepRemove, sayPinned, stepPin, saySize, resizeOf, stepResize, sayCount, reclaimOf, stepReclaim, stepCode, stepRecord, step}
+use Rattle.steps.specs.Steps.{sayNew, stepNew, sayAccess, accessOf, stepAccess, sayDone, sayToken, stepPublish, stepAbort, sayFound, stepLookup, sayRemoved, stepRemove, sayPinned, stepPin, saySize, resizeOf, stepResize, sayCount, reclaimOf, stepReclaim, stepCode, step}
+use Rattle.steps.proofs.Cases.{step-bad, step-new, step-before, step-code}
 use Rattle.invariant.proofs.FreshTable.{fresh-valid}
 use Rattle.sheet_laws.specs.Orderly.{InOrder, Orderly, unmade!, made!, Counted}
 use Rattle.sheet_laws.specs.Refusals.{refusable, sayable, spentBy, Fair}
@@ -186,37 +186,33 @@ module _ (s : Standing) (st : s .stands ≡ true) (n : ℕ) (g : InOrder (s .sta
       ]
 
 -- ── every record ──
-stood : {A : Type 0} (b : Bool) (x y : A) → b ≡ true → (if not b then x else y) ≡ y
-stood true x y e = refl
-stood false x y e = absurd (false-true e)
+module _ (s : Standing) (n : ℕ) (k : Counted n (s .state)) (bytes : List ℕ) (r : Record) (w : readRecord bytes ≡ Read.Whole r) where
+  later-fair : (r .code ≡ 1 → ⊥) → Orderly s → Fair n (r .code) (step s bytes)
+  unfolding start
+  later-fair ne (unmade! e) = rw (step-before s bytes r refl w ne (ap (λ (x : Standing). not (x .stands)) e)) (stays s n (r .code) Said.Bad (unmade! e) k refl)
+  later-fair ne (made! st g) = rw (step-code s bytes r refl w ne (ap not st)) (code-fair s st n g k r (r .code))
 
-unstood : {A : Type 0} (b : Bool) (x y : A) → b ≡ false → (if not b then x else y) ≡ x
-unstood false x y e = refl
-unstood true x y e = absurd (false-true (sym e))
+  whole-fair : Orderly s → Fair n (r .code) (step s bytes)
+  whole-fair o =
+      elim (is (eqb (r .code) 1)) [
+        | yes! e ↦
+            let one = eqb-true (r .code) 1 e in
+            rw (step-new s bytes r refl w one) (subst (λ (c : ℕ). Fair n c (stepNew s r)) (sym one) (new-fair s n o k r))
+        | no! e ↦ later-fair (eqb-false (r .code) 1 e) o
+      ]
 
-start-unmade : start .stands ≡ false
-unfolding start
-start-unmade = refl
+read-whole : (bytes : List ℕ) → inRange bytes ≡ true → readRecord bytes ≡ Read.Whole (fieldsOf bytes)
+unfolding readRecord
+read-whole bytes e = rw e
 
-later-fair : (s : Standing) (n : ℕ) → Orderly s → Counted n (s .state) → (r : Record) → Fair n (r .code) (if not (s .stands) then says s Said.Bad else stepCode s r (r .code))
-later-fair s n (unmade! e) k r =
-    let z : s .stands ≡ false = ap (λ (x : Standing). x .stands) e ∙ start-unmade in
-    subst (λ (a : Stepped). Fair n (r .code) a) (sym (unstood (s .stands) (says s Said.Bad) (stepCode s r (r .code)) z)) (stays s n (r .code) Said.Bad (unmade! e) k refl)
-later-fair s n (made! st g) k r =
-    subst (λ (a : Stepped). Fair n (r .code) a) (sym (stood (s .stands) (says s Said.Bad) (stepCode s r (r .code)) st)) (code-fair s st n g k r (r .code))
-
-record-fair : (s : Standing) (n : ℕ) → Orderly s → Counted n (s .state) → (r : Record) → Fair n (r .code) (stepRecord s (Read.Whole r))
-unfolding stepRecord
-record-fair s n o k r =
-    elim (is (eqb (r .code) 1)) [
-      | yes! e ↦ rw e (subst (λ (c : ℕ). Fair n c (stepNew s r)) (sym (eqb-true (r .code) 1 e)) (new-fair s n o k r))
-      | no! e ↦ rw e (later-fair s n o k r)
-    ]
+read-bad : (bytes : List ℕ) → inRange bytes ≡ false → readRecord bytes ≡ Read.Bad
+unfolding readRecord
+read-bad bytes e = rw e
 
 pub step-fair : (s : Standing) (n : ℕ) → Orderly s → Counted n (s .state) → (bytes : List ℕ) → Fair n (byteAt bytes 0) (step s bytes)
-unfolding step readRecord fieldsOf stepRecord
+unfolding fieldsOf
 step-fair s n o k bytes =
     elim (is (inRange bytes)) [
-      | yes! e ↦ rw e (record-fair s n o k (fieldsOf bytes))
-      | no! e ↦ rw e (stays s n (byteAt bytes 0) Said.Bad o k refl)
+      | yes! e ↦ whole-fair s n k bytes (fieldsOf bytes) (read-whole bytes e) o
+      | no! e ↦ rw (step-bad s bytes refl (read-bad bytes e)) (stays s n (byteAt bytes 0) Said.Bad o k refl)
     ]
