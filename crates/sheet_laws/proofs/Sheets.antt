@@ -41,7 +41,7 @@ orderly-step s o bytes =
     let t = s .state in
     step-fair s (t .«next_access_sequence» + t .«next_load_generation») o (record { uses = omega arith; generations = omega arith }) bytes .orderly
 
--- after so many records of any bytes
+-- after n records of any bytes
 abbrev Stands : ℕ → Standing → Type 0
 Stands n s = Orderly s × Counted n (s .state)
 
