@@ -70,7 +70,7 @@ fn capacity<A: Debug>(
         assert_eq!(original(asked as usize).err(), Some(INVALID_CAPACITY));
         return Err(INVALID_CAPACITY);
     }
-    // DIFFERENCE capacities 257 to 2^62 (added limit; READINGS 8): 2 at once, before Unchanged and Busy. The original
+    // DIFFERENCE capacities 257 to 2^62 (added limit): 2 at once, before Unchanged and Busy. The original
     // makes such a table if memory allows, and is Busy before it tries.
     if asked > MOST_SLOTS {
         differences.note(rule, original(asked as usize));
@@ -93,7 +93,7 @@ pub fn access(table: &mut Table, key: CacheKey, allow: bool, pins: &[u8]) -> Res
 
 pub fn publish(table: &mut Table, token: Token, differences: &mut Differences) -> Result<(), u8> {
     table.validate(token)?;
-    // DIFFERENCE publish 9 (added; READINGS 30): a use number above the last given. The original takes it.
+    // DIFFERENCE publish 9 (added): a use number above the last given. The original takes it.
     if token.access_sequence > table.last_use_given() {
         differences.note("publish, 9", table.clone().publish(token));
         return Err(NOT_GIVEN);
@@ -113,7 +113,7 @@ fn clean_slot(table: &mut Table, slot: u64) -> Result<usize, u8> {
 }
 
 pub fn remove(table: &mut Table, slot: u64, differences: &mut Differences) -> Result<(), u8> {
-    // DIFFERENCE remove 5 and 8 (READINGS 9): the original stops.
+    // DIFFERENCE remove 5 and 8: the original stops.
     let slot = clean_slot(table, slot).inspect_err(|refusal| {
         differences.note(&format!("remove, {refusal}"), table.clone().remove_clean(slot as usize));
     })?;
@@ -121,7 +121,7 @@ pub fn remove(table: &mut Table, slot: u64, differences: &mut Differences) -> Re
 }
 
 pub fn detach(table: &mut Table, slot: u64, differences: &mut Differences) -> Result<(), u8> {
-    // DIFFERENCE detach 5 and 8 (READINGS 9): the original stops.
+    // DIFFERENCE detach 5 and 8: the original stops.
     let slot = clean_slot(table, slot).inspect_err(|refusal| {
         differences.note(&format!("detach, {refusal}"), table.clone().detach_clean(slot as usize));
     })?;
@@ -148,7 +148,7 @@ pub fn resize(table: &mut Table, asked: u64, pins: &[u8], list: &mut [u16], diff
     if list.len() != table.capacity() {
         return Err(LIST);
     }
-    // DIFFERENCE resize 8 (READINGS 35): after the first Unchanged and the first Busy, before all else. The original counts
+    // DIFFERENCE resize 8: after the first Unchanged and the first Busy, before all else. The original counts
     // the pins first, so it may be Unchanged or make the fresh table; else it stops.
     if asked != table.capacity() && table.loading() == 0 {
         for slot in 0..table.capacity() {
@@ -159,7 +159,7 @@ pub fn resize(table: &mut Table, asked: u64, pins: &[u8], list: &mut [u16], diff
         }
     }
     let answer = table.resize(asked, pins, list)?;
-    // DIFFERENCE resize's list for a key that stands twice (READINGS 39): the list says where each page went, and in the
+    // DIFFERENCE resize's list for a key that stands twice: the list says where each page went, and in the
     // original the second page overwrites the first.
     if let Maintained::Resized { overwritten: true, .. } = answer {
         differences.count("resize, list of a doubled key; in the Rust the first page is overwritten");
@@ -183,7 +183,7 @@ pub fn reclaim(table: &mut Table, limit: u64, pins: &[u8], differences: &mut Dif
     if paged {
         return table.reclaim(limit, pins, false);
     }
-    // DIFFERENCE reclaim's pages (READINGS 50): a victim is chosen by its pin byte alone. The original passes over a slot
+    // DIFFERENCE reclaim's pages: a victim is chosen by its pin byte alone. The original passes over a slot
     // without a page. Where each heap entry is the only one of a clean slot there is no such slot (above). Else every slot
     // has a page here, put back before each round.
     let mut after = table.clone();

@@ -1,6 +1,7 @@
 //! Made-up tables: one case is a table, however damaged, and one call (README.md, "Made-up tables").
 
 use crate::calls::{self, Differences, STOP, padded};
+use crate::past::Past;
 use crate::picture::{Picture, narrow, put};
 use crate::sheet::{ABORT, ACCESS, LOOKUP, Line, PUBLISH, RECLAIM, REMOVE, RESIZE, line};
 use crate::{Access, CacheKey, Maintained, Table, Token};
@@ -43,7 +44,7 @@ fn found(slot: Option<usize>) -> Answer {
 }
 
 impl Case {
-    /// Runs the call and writes the line: case, word, number, how many more numbers and these, and the table after it.
+    /// Runs the call and writes the line: case, word, number, how many more numbers and these, the table after it, and the places past its lengths.
     pub fn run(&self, number: u64, differences: &mut Differences, out: &mut Vec<u8>) {
         let mut list = vec![LENT; self.list_len.into()];
         let mut after = self.table.clone();
@@ -70,8 +71,11 @@ impl Case {
         let value = answer.line.number.map_or("-".to_string(), |value| value.to_string());
         out.extend(format!("{number} {} {value}", answer.line.word).bytes());
         put(out, answer.more.len() as u64);
-        answer.more.into_iter().for_each(|more| put(out, more));
+        answer.more.iter().for_each(|more| put(out, *more));
         after.write(out);
+        // A table made anew is a fresh one with keys restored; else what stands past a length stays there.
+        let past = if answer.line.word == "resized" { Past::default() } else { Past::filled(&self.table).after(&after) };
+        past.write(out);
         out.push(b'\n');
     }
 

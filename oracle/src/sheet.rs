@@ -1,6 +1,7 @@
-//! Run sheets: document 01, "Run sheets", and READINGS 58 to 62.
+//! Run sheets: document 01, "Run sheets".
 
 use crate::calls::{self, Differences, STALE};
+use crate::past::Past;
 use crate::picture::{NONE, Picture, put};
 use crate::{Access, CacheKey, Maintained, Table, Token};
 
@@ -163,12 +164,15 @@ impl Sheet {
         out.extend(format!("{number} {} {value} {clean} {loading}", line.word).bytes());
     }
 
-    /// What the trace has after a line: the table and the pins.
+    /// What the trace has after a line: the table, the pins, and the places past the lengths, the pins' last. On a sheet these are all 0: the table
+    /// was fresh, and `made` and resize give pins to no other slots.
     pub fn write_table(&self, out: &mut Vec<u8>) {
         self.picture().write(out);
         for pin in &self.pins {
             put(out, u64::from(*pin));
         }
+        Past::default().write(out);
+        put(out, 0);
     }
 
     /// What is wrong with the table, if anything: the original's assert_valid, and a pin where no clean slot is.

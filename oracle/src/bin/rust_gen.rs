@@ -4,12 +4,13 @@ use std::io::{BufWriter, Write, stdin, stdout};
 use std::process::ExitCode;
 
 use original::case::Case;
+use original::make_aimed::aimed;
 use original::make_cases::cases;
 use original::make_sheets::{Maker, exhaustive, exhaustive_deep};
 use original::sheet::Record;
 
-const USAGE: &str =
-    "usage: rust_gen SEED RECORDS | --exhaustive CAPACITY LENGTH | --deep CAPACITY LENGTH | --made-up SEED COUNT | --records | --cases";
+const USAGE: &str = "usage: rust_gen SEED RECORDS | --exhaustive CAPACITY LENGTH | --deep CAPACITY LENGTH | --made-up SEED COUNT |
+    --aimed | --aimed-words | --records | --cases";
 
 /// The lines of standard input that are not empty, each without what follows a # or =.
 fn lines() -> Vec<String> {
@@ -40,6 +41,12 @@ fn main() -> ExitCode {
                 emit(&bytes);
             });
         }
+        ["--aimed"] => {
+            let mut bytes = Vec::new();
+            aimed().iter().for_each(|(_, case)| case.write_bytes(&mut bytes));
+            emit(&bytes);
+        }
+        ["--aimed-words"] => aimed().iter().for_each(|(word, _)| emit(format!("{word}\n").as_bytes())),
         ["--records"] => {
             for line in lines() {
                 let fields: Vec<u64> = line.split_whitespace().map(number).collect();
