@@ -1,7 +1,7 @@
 //! Made-up tables chosen by aim: each shows a rule that a program could have otherwise and still agree with most others. Beside each case stands
 //! what document 01 says of it: the word and its number.
 
-use crate::case::{CLEAN_ENTRY, COLD_CANDIDATE, Case, DETACH, PEEK_CLEAN, VALIDATE};
+use crate::case::{CALLS, CLEAN_ENTRY, COLD_CANDIDATE, Case, DETACH, OLDEST_CLEAN, PEEK_CLEAN, VALIDATE};
 use crate::picture::{NONE, Picture};
 use crate::sheet::{ABORT, ACCESS, LOOKUP, PUBLISH, RECLAIM, REMOVE, RESIZE};
 use crate::{Access, CacheKey, Table, Token};
@@ -262,6 +262,8 @@ fn chains(all: &mut Aimed) {
     all.push(("found 1", of_file(PEEK_CLEAN, &long, APART)));
     all.push(("refused 10", of_number(REMOVE, &long, 0)));
     all.push(("done -", of_number(DETACH, &long, 1)));
+    // The only victim is in the full chain that refuses the key.
+    all.push(("busy -", of_file(ACCESS, &clean(64, (0..64).map(|file| file * 128)), 64 * 128)));
     // 65 keys in two chains of 129 slots, which 128 slots have as one: a key is removed, and Busy where all are pinned.
     let two = clean(129, (0..65).map(|file| file * APART));
     all.push(("resized 128", of_number(RESIZE, &two, 128)));
@@ -284,9 +286,94 @@ fn many(all: &mut Aimed) {
     all.push(("resized 64", pinned(of_number(RESIZE, &full, 1), 33)));
 }
 
+/// The first test of 10, before any other; and counts of clean and loading slots that do not fit the slots.
+fn stops(all: &mut Aimed) {
+    let sound = clean(2, [1]);
+    let mut buckets = sound.clone();
+    buckets.buckets = 8;
+    buckets.heads.resize(8, NONE);
+    let mut stack = sound.clone();
+    stack.free_len = 3;
+    stack.free = vec![1, 1, 1];
+    let mut heap = sound.clone();
+    heap.heap_len = 3;
+    heap.entries = vec![(0, 1); 3];
+    for code in CALLS {
+        for table in [&buckets, &stack, &heap] {
+            all.push(("refused 10", Case { pins: Vec::new(), list_len: 0, ..call(code, table) }));
+        }
+    }
+    let mut table = loaded(2, [1]);
+    let token = reserve(&mut table, 2);
+    let table = table.picture();
+    for code in [PUBLISH, ABORT] {
+        let mut none = Case { token, ..call(code, &table) };
+        none.table.loading = 0;
+        all.push(("refused 10", none));
+    }
+    let mut most = Case { token, ..call(PUBLISH, &table) };
+    most.table.clean = MAX;
+    all.push(("refused 10", most));
+    let mut most = of_file(ACCESS, &sound, 2);
+    most.table.loading = MAX;
+    all.push(("refused 10", most));
+    damaged(all);
+}
+
+/// Where the Rust stops on a table of the right lengths: one place is changed in a table of two keys, or of one and one that loads.
+fn damaged(all: &mut Aimed) {
+    let mut table = loaded(2, [1]);
+    let token = reserve(&mut table, 2);
+    let loading = table.picture();
+    let two = clean(2, [1, 2]);
+    let one = clean(2, [1]);
+    let on = |table: &Picture, damage: &dyn Fn(&mut Picture)| {
+        let mut table = table.clone();
+        damage(&mut table);
+        table
+    };
+    // The stack is full already.
+    let full = |table: &mut Picture| (table.free, table.free_len) = (vec![1, 1], 2);
+    all.push(("refused 10", call(REMOVE, &on(&one, &full))));
+    all.push(("refused 10", Case { token, ..call(ABORT, &on(&loading, &full)) }));
+    // The loading slot has a heap place.
+    all.push(("refused 10", Case { token, ..call(PUBLISH, &on(&loading, &|table| table.positions[1] = 0)) }));
+    // The place of slot 0 is that of another, or none.
+    for place in [1, 2, NONE] {
+        let table = on(&two, &|table| table.positions[0] = place);
+        for (code, word) in [(ACCESS, "refused 10"), (LOOKUP, "refused 10"), (REMOVE, "refused 10"), (DETACH, "refused 10"), (PEEK_CLEAN, "found 0")] {
+            all.push((word, call(code, &table)));
+        }
+        all.push(("refused 10", of_file(ACCESS, &table, 3)));
+        all.push(("refused 10", of_number(RECLAIM, &table, 1)));
+        all.push(("refused 10", of_number(RESIZE, &table, 1)));
+    }
+    // A heap entry of a slot past the capacity: as the root, and behind it.
+    let root = on(&two, &|table| table.entries[0].0 = 700);
+    all.push(("refused 10", of_file(ACCESS, &root, 3)));
+    all.push(("refused 10", of_number(RECLAIM, &root, 1)));
+    all.push(("refused 10", of_number(RESIZE, &root, 1)));
+    all.push(("found 700", call(OLDEST_CLEAN, &root)));
+    let last = on(&two, &|table| table.entries[1].0 = 700);
+    all.push(("refused 10", call(ACCESS, &last)));
+    all.push(("refused 10", call(REMOVE, &last)));
+    all.push(("found 700", of_number(COLD_CANDIDATE, &last, 1)));
+    // A vacant slot that links on, a head past the capacity, and a key that is in no chain.
+    all.push(("refused 10", of_file(ACCESS, &on(&one, &|table| table.next[1] = 1), 2)));
+    for (head, found) in [(700, "refused 10"), (NONE, "none -")] {
+        let table = on(&two, &|table| table.heads[1] = head);
+        all.push((found, call(LOOKUP, &table)));
+        all.push((found, call(PEEK_CLEAN, &table)));
+        all.push(("refused 10", call(REMOVE, &table)));
+        all.push(("refused 10", of_number(RECLAIM, &table, 1)));
+    }
+    // The loading slot is in no chain.
+    all.push(("refused 10", Case { token, ..call(ABORT, &on(&loading, &|table| table.heads[2] = NONE)) }));
+}
+
 pub fn aimed() -> Aimed {
     let mut all = Vec::new();
-    for part in [counters, numbers, tokens, arguments, heaps, chains, many] {
+    for part in [counters, numbers, tokens, arguments, heaps, chains, many, stops] {
         part(&mut all);
     }
     all
