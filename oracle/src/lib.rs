@@ -17,6 +17,18 @@ pub mod sheet;
 
 pub use cache::raw::{Access, CacheKey, Maintained, Table, Token};
 
+/// Whether a text was written. False where nobody reads any more, which is an ordinary end; any other failure ends the program with status 1.
+pub fn written(result: std::io::Result<()>) -> bool {
+    match result {
+        Ok(()) => true,
+        Err(why) if why.kind() == std::io::ErrorKind::BrokenPipe => false,
+        Err(why) => {
+            eprintln!("standard output: {why}");
+            std::process::exit(1);
+        }
+    }
+}
+
 /// The original names this type of its kernel as a parameter of its lock.
 mod hal {
     pub mod irq {

@@ -8,6 +8,7 @@ use original::make_aimed::aimed;
 use original::make_cases::cases;
 use original::make_sheets::{Maker, exhaustive, exhaustive_deep};
 use original::sheet::Record;
+use original::written;
 
 const USAGE: &str = "usage: rust_gen SEED RECORDS | --exhaustive CAPACITY LENGTH | --deep CAPACITY LENGTH | --made-up SEED COUNT |
     --aimed | --aimed-words | --records | --cases";
@@ -23,9 +24,8 @@ fn main() -> ExitCode {
     let words: Vec<String> = std::env::args().skip(1).collect();
     let words: Vec<&str> = words.iter().map(String::as_str).collect();
     let mut output = BufWriter::with_capacity(1 << 16, stdout().lock());
-    // Nobody reads any more: an ordinary end.
     let mut emit = |bytes: &[u8]| {
-        if output.write_all(bytes).is_err() {
+        if !written(output.write_all(bytes)) {
             std::process::exit(0);
         }
     };
@@ -79,5 +79,6 @@ fn main() -> ExitCode {
             return ExitCode::from(2);
         }
     }
+    written(output.flush());
     ExitCode::SUCCESS
 }

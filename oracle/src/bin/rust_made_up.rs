@@ -6,6 +6,7 @@ use std::io::{BufReader, BufWriter, Write, stdin, stdout};
 
 use original::calls::Differences;
 use original::case::Case;
+use original::written;
 
 fn main() {
     let flags: Vec<String> = std::env::args().skip(1).collect();
@@ -22,14 +23,14 @@ fn main() {
                 out.push(b'\n');
             }
             case.run(number, &mut differences, &mut out);
-            if output.write_all(&out).is_err() {
+            if !written(output.write_all(&out)) {
                 return;
             }
             out.clear();
         }
         number += 1;
     }
-    let _ = output.flush();
+    written(output.flush());
     if flags.iter().any(|flag| flag == "--counts") {
         eprintln!("{number:>10}  cases");
         differences.report();

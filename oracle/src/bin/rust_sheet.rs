@@ -5,6 +5,7 @@ use std::io::{BufReader, Read, Write, stdin, stdout};
 use std::process::ExitCode;
 
 use original::sheet::{RECORD, Record, Sheet};
+use original::written;
 
 fn main() -> ExitCode {
     let flags: Vec<String> = std::env::args().skip(1).collect();
@@ -59,7 +60,7 @@ fn main() -> ExitCode {
 
 /// False where nobody reads any more.
 fn write(output: &mut impl Write, out: &mut Vec<u8>) -> bool {
-    let written = output.write_all(out).and_then(|()| output.flush());
+    let reads = written(output.write_all(out).and_then(|()| output.flush()));
     out.clear();
-    written.is_ok()
+    reads
 }
