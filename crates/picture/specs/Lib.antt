@@ -1,1 +1,3 @@
-pub mod Places
+pub mod Wrote
+pub mod Numbers
+pub mod Table

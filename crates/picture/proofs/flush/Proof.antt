@@ -1,7 +1,10 @@
 -- `picture::flush` meets its contract. Assumes nothing.
-use mathlib.Core.Path.{sym}
+use Prim.Native.Nat.{min}
+use mathlib.Core.Path.{refl, sym}
 use native.Mathlib.Omega.{arith}
+use lib.ListN.{length}
 use lib.Seq.{length-take-le}
+use borrow.Author.Tests.{le-leb, lt-leb}
 use borrow.Author.Needs.{needs}
 use Rattle.picture.proofs.flush.Statement.{statement}
 use Rattle.picture.proofs.flush.Tie as tie
@@ -10,18 +13,18 @@ least-requires : tie.Need-least-requires
 least-requires c κs = search needs
 
 returns : tie.Need-returns
-returns c = search needs
+returns c = (rw (le-leb (min (c .before .before .before .args .at) (length (c .before .before .before .args .out .now))) (c .before .before .before .args .most) (omega arith)) (c .before .least .ensures), λ h. refl)
 
-slice-aggregate-write-all : tie.Need-slice-aggregate-write-all
-slice-aggregate-write-all c = sym (length-take-le _ _ (omega arith))
+slice-aggregate-write-out : tie.Need-slice-aggregate-write-out
+slice-aggregate-write-out c = sym (length-take-le _ _ (omega arith))
 
-write-all-requires : tie.Need-write-all-requires
-write-all-requires c κs = search needs
+write-out-requires : tie.Need-write-out-requires
+write-out-requires c κs = search needs
 
 returns-2 : tie.Need-returns-2
-returns-2 c = search needs
+returns-2 c = (rw (lt-leb (min (c .before .before .before .before .before .args .at) (length (c .before .before .before .before .before .args .out .now))) (c .before .before .before .before .before .args .most) (omega arith)), λ h. absurd (omega arith))
 
 pub flush-spec : {M : Type 1} → statement M
 flush-spec =
     tie.close
-    (tie.spec least-requires returns slice-aggregate-write-all write-all-requires returns-2)
+    (tie.spec least-requires returns slice-aggregate-write-out write-out-requires returns-2)

@@ -1,28 +1,25 @@
--- `picture::put` meets its contract: a store leaves the list as long as it was. Assumes nothing.
-use native.Mathlib.Omega.{arith}
-use lib.ListN.{length-set}
+-- `picture::put` meets its contract. Assumes nothing.
 use borrow.Author.Needs.{needs}
+use Rattle.picture.proofs.Laws.{joined, wrote-as, spaced-one}
 use Rattle.picture.proofs.put.Statement.{statement}
 use Rattle.picture.proofs.put.Tie as tie
 
-returns : tie.Need-returns
-returns c = search needs
+slice-aggregate-put-text : tie.Need-slice-aggregate-put-text
+slice-aggregate-put-text c = search needs
 
-slice-write-out : tie.Need-slice-write-out
-slice-write-out c = search needs
-
-add-digits : tie.Need-add-digits
-add-digits c = search needs
+put-text-requires : tie.Need-put-text-requires
+put-text-requires c κs = search needs
 
 digits-requires : tie.Need-digits-requires
 digits-requires c κs = search needs
 
 same-length : tie.Need-same-length
-same-length c = omega (arith, simp length-set at (c .before .before .digits .ensures .1))
+same-length c = search needs
 
-returns-2 : tie.Need-returns-2
-returns-2 c = (omega (arith, simp length-set at (c .before .before .digits .ensures .0)), omega (arith, simp length-set at (c .before .before .digits .ensures .1)))
+returns : tie.Need-returns
+returns c = wrote-as (spaced-one (c .before .before .before .before .before .before .before .before .before .before .args .n)) (joined (c .before .before .before .before .before .before .put-text .ensures) (c .before .before .digits .ensures))
 
 pub put-spec : {M : Type 1} → statement M
 put-spec =
-    tie.close (tie.spec returns slice-write-out add-digits digits-requires same-length returns-2)
+    tie.close
+    (tie.spec slice-aggregate-put-text put-text-requires digits-requires same-length returns)

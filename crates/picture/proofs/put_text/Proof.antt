@@ -1,19 +1,22 @@
--- `picture::put_text` meets its contract. The invariant: there is room for what is left of the text. Assumes nothing.
-use Prim.Native.Nat.{_+_, _≤_}
+-- `picture::put_text` meets its contract. The invariant: what is left of the text, written from the place reached, makes the whole; and so many bytes
+-- are left as there is text and room for. Assumes nothing.
+use Prim.Native.Nat.{_+_, _-_, _≤_, min}
 use mathlib.Core.Path.{_≡_}
-use lib.ListN.{length}
+use native.Mathlib.Omega.{arith}
+use lib.ListN.{length, drop, length-set}
 use borrow.Author.Needs.{needs}
+use Rattle.picture.proofs.Laws.{Leads, lead-start, no-room, text-on, text-end}
 use Rattle.picture.proofs.put_text.Statement.{statement}
 use Rattle.picture.proofs.put_text.Tie as tie
 
 abbrev Inv-loop : tie.InvT-loop
-Inv-loop out₀ at text room to₀ from₀ left₀ out to from left = (to + left ≤ room) × (from + left ≤ length text) × (length out ≡ room)
+Inv-loop out₀ at text room to₀ from₀ left₀ out to from left = (at + from ≡ to) × (from + left ≡ min (length text) (room - at)) × (length out ≡ room) × (at ≤ room) × Leads out₀ at text out to (drop from text)
 
 abbrev μ-loop : tie.MeasureT-loop
 μ-loop out₀ at text room to₀ from₀ left₀ out to from left = left
 
 returns : tie.Need-returns Inv-loop μ-loop
-returns c = search needs
+returns c = no-room (c .before .before .before .args .out .now) (c .before .before .before .args .at) (c .before .before .before .args .text .now) (omega arith)
 
 least-requires : tie.Need-least-requires Inv-loop μ-loop
 least-requires c κs = search needs
@@ -40,13 +43,13 @@ loop-less : tie.Need-loop-less Inv-loop μ-loop
 loop-less c = search needs
 
 loop-again : tie.Need-loop-again Inv-loop μ-loop
-loop-again c = search needs
+loop-again c = (omega arith, omega arith, simp length-set (c .before .before .loop .inv .2), omega arith, text-on (c .before .before .before .before .before .before .before .args .text .now) (c .before .before .loop .from) (omega arith) (omega arith) (c .before .before .loop .inv .4))
 
 same-length : tie.Need-same-length Inv-loop μ-loop
 same-length c = search needs
 
 returns-2 : tie.Need-returns-2 Inv-loop μ-loop
-returns-2 c = search needs
+returns-2 c = text-end (c .before .before .before .before .before .before .args .text .now) (c .before .loop .from) (omega arith) (λ h. omega arith) (c .before .loop .inv .4)
 
 pub put-text-spec : {M : Type 1} → statement M
 put-text-spec =

@@ -1,76 +1,20 @@
--- `picture::put_words` meets its contract. The invariant: the place is within the list. Assumes nothing.
-use Prim.Native.Nat.{_+_, _≤_}
-use mathlib.Core.Path.{_≡_}
-use lib.ListN.{length}
+-- `picture::put_words` meets its contract. Assumes nothing.
+use mathlib.Core.Path.{ap}
+use lib.ListN.{take}
 use borrow.Author.Needs.{needs}
+use Rattle.picture.specs.Numbers.{spaced}
+use Rattle.picture.proofs.Laws.{wrote-as, told-words}
 use Rattle.picture.proofs.put_words.Statement.{statement}
 use Rattle.picture.proofs.put_words.Tie as tie
 
-abbrev Inv-loop : tie.InvT-loop
-Inv-loop out₀ at list count to₀ i₀ left₀ out to i left = (to ≤ length out₀) × (length out ≡ length out₀) × (i + left ≤ length list)
+walk-words-requires : tie.Need-walk-words-requires
+walk-words-requires c κs = search needs
 
-abbrev μ-loop : tie.MeasureT-loop
-μ-loop out₀ at list count to₀ i₀ left₀ out to i left = left
-
-slice-aggregate-put-text : tie.Need-slice-aggregate-put-text Inv-loop μ-loop
-slice-aggregate-put-text c = search needs
-
-put-text-requires : tie.Need-put-text-requires Inv-loop μ-loop
-put-text-requires c κs = search needs
-
-least-requires : tie.Need-least-requires Inv-loop μ-loop
-least-requires c κs = search needs
-
-loop-holds : tie.Need-loop-holds Inv-loop μ-loop
-loop-holds c = search needs
-
-mul-wider : tie.Need-mul-wider Inv-loop μ-loop
-mul-wider c = search needs
-
-shared-slice-read-wider : tie.Need-shared-slice-read-wider Inv-loop μ-loop
-shared-slice-read-wider c = search needs
-
-wider-requires : tie.Need-wider-requires Inv-loop μ-loop
-wider-requires c κs = search needs
-
-put-requires : tie.Need-put-requires Inv-loop μ-loop
-put-requires c κs = search needs
-
-add-i : tie.Need-add-i Inv-loop μ-loop
-add-i c = search needs
-
-sub-left : tie.Need-sub-left Inv-loop μ-loop
-sub-left c = search needs
-
-loop-less : tie.Need-loop-less Inv-loop μ-loop
-loop-less c = search needs
-
-loop-again : tie.Need-loop-again Inv-loop μ-loop
-loop-again c = search needs
-
-same-length : tie.Need-same-length Inv-loop μ-loop
+same-length : tie.Need-same-length
 same-length c = search needs
 
-returns : tie.Need-returns Inv-loop μ-loop
-returns c = search needs
+returns : tie.Need-returns
+returns c = wrote-as (ap spaced (told-words 0 (take (c .before .before .before .before .before .before .args .count) (c .before .before .before .before .before .before .args .list .now)))) (c .before .before .walk-words .ensures .0)
 
 pub put-words-spec : {M : Type 1} → statement M
-put-words-spec =
-    tie.close
-    (tie.spec
-    Inv-loop
-    μ-loop
-    slice-aggregate-put-text
-    put-text-requires
-    least-requires
-    loop-holds
-    mul-wider
-    shared-slice-read-wider
-    wider-requires
-    put-requires
-    add-i
-    sub-left
-    loop-less
-    loop-again
-    same-length
-    returns)
+put-words-spec = tie.close (tie.spec walk-words-requires same-length returns)

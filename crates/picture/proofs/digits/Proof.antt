@@ -1,0 +1,37 @@
+-- `picture::digits` meets its contract. Assumes nothing.
+use mathlib.Core.Path.{_∙_}
+use native.Mathlib.Omega.{arith}
+use borrow.Author.Needs.{needs}
+use Rattle.picture.proofs.Laws.{wrote-as}
+use Rattle.picture.proofs.Decimal.{fewest-decimal}
+use Rattle.picture.proofs.digits.Statement.{statement}
+use Rattle.picture.proofs.digits.Tie as tie
+
+decimal-requires : tie.Need-decimal-requires
+decimal-requires c κs = search needs
+
+array-share-prefix-text : tie.Need-array-share-prefix-text
+array-share-prefix-text c = search needs
+
+slice-aggregate-put-text : tie.Need-slice-aggregate-put-text
+slice-aggregate-put-text c = search needs
+
+put-text-requires : tie.Need-put-text-requires
+put-text-requires c κs = search needs
+
+same-length : tie.Need-same-length
+same-length c = search needs
+
+returns : tie.Need-returns
+returns c = wrote-as (c .before .before .before .before .before .decimal .ensures .1 .1 ∙ fewest-decimal (c .before .before .before .before .before .before .before .before .args .n) (c .before .before .before .before .before .decimal .result) (omega arith) (c .before .before .before .before .before .decimal .ensures .1 .0)) (c .before .before .put-text .ensures)
+
+pub digits-spec : {M : Type 1} → statement M
+digits-spec =
+    tie.close
+    (tie.spec
+    decimal-requires
+    array-share-prefix-text
+    slice-aggregate-put-text
+    put-text-requires
+    same-length
+    returns)

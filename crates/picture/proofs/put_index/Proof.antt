@@ -1,0 +1,52 @@
+-- `picture::put_index` meets its contract. Assumes nothing.
+use borrow.Author.Needs.{needs}
+use Rattle.picture.specs.Table.{indexNumbers}
+use Rattle.picture.proofs.Laws.{numbers-joined}
+use Rattle.picture.proofs.put_index.Statement.{statement}
+use Rattle.picture.proofs.put_index.Tie as tie
+
+put-requires : tie.Need-put-requires
+put-requires c κs = search needs
+
+slice-aggregate-put-words : tie.Need-slice-aggregate-put-words
+slice-aggregate-put-words c = search needs
+
+put-words-requires : tie.Need-put-words-requires
+put-words-requires c κs = search needs
+
+slice-aggregate-put-words-2 : tie.Need-slice-aggregate-put-words-2
+slice-aggregate-put-words-2 c = search needs
+
+put-words-requires-2 : tie.Need-put-words-requires-2
+put-words-requires-2 c κs = search needs
+
+put-requires-2 : tie.Need-put-requires-2
+put-requires-2 c κs = search needs
+
+slice-aggregate-put-words-3 : tie.Need-slice-aggregate-put-words-3
+slice-aggregate-put-words-3 c = search needs
+
+put-words-requires-3 : tie.Need-put-words-requires-3
+put-words-requires-3 c κs = search needs
+
+same-length : tie.Need-same-length
+same-length c = search needs
+
+returns : tie.Need-returns
+unfolding indexNumbers
+returns c = numbers-joined _ _ (numbers-joined _ _ (numbers-joined _ _ (numbers-joined _ _ (c .before .before .before .before .before .before .before .before .before .before .before .before .before .before .before .before .before .before .before .before .before .put .ensures) (c .before .before .before .before .before .before .before .before .before .before .before .before .before .before .before .before .put-words .ensures)) (c .before .before .before .before .before .before .before .before .before .before .before .put-words2 .ensures)) (c .before .before .before .before .before .before .before .put2 .ensures)) (c .before .before .put-words3 .ensures)
+
+pub put-index-spec : {M : Type 1} → statement M
+put-index-spec =
+    tie.close
+    (tie.spec
+    put-requires
+    slice-aggregate-put-words
+    put-words-requires
+    slice-aggregate-put-words-2
+    put-words-requires-2
+    put-requires-2
+    slice-aggregate-put-words-3
+    put-words-requires-3
+    same-length
+    returns)

@@ -1,0 +1,49 @@
+-- `picture::put_slots_past` meets its contract. Assumes nothing.
+use mathlib.Core.Path.{_≡_, ap}
+use mathlib.Core.List.{[], _∷_}
+use native.Mathlib.Omega.{arith}
+use lib.ListN.{length, take, drop}
+use borrow.Author.Needs.{needs}
+use Rattle.picture.specs.Numbers.{spaced, told}
+use Rattle.picture.specs.Table.{slotNumbers}
+use Rattle.picture.proofs.Laws.{wrote-as, numbers-joined, past-none, past-some, mapped}
+use mathlib.Core.Bool.{false}
+use Rattle.picture.proofs.put_slots_past.Statement.{statement}
+use Rattle.picture.proofs.put_slots_past.Tie as tie
+
+slice-aggregate-walk-slots : tie.Need-slice-aggregate-walk-slots
+slice-aggregate-walk-slots c = search needs
+
+walk-slots-requires : tie.Need-walk-slots-requires
+walk-slots-requires c κs = search needs
+
+put-requires : tie.Need-put-requires
+put-requires c κs = search needs
+
+same-length : tie.Need-same-length
+same-length c = search needs
+
+returns : tie.Need-returns
+returns c = let n : length (c .before .before .before .before .before .before .before .before .before .before .args .slots) ≡ 256 = search (needs, mapped) in wrote-as (ap spaced (past-none slotNumbers (c .before .before .before .before .before .before .before .before .before .before .args .slots) (c .before .before .before .before .before .before .before .before .before .before .args .length) (256) (c .before .before .before .before .before .before .before .walk-slots .result .held) (omega arith) (c .before .before .before .before .before .before .before .walk-slots .ensures .1) (c .if1 .taken))) (c .before .before .before .before .put .ensures)
+
+walk-slots-requires-2 : tie.Need-walk-slots-requires-2
+walk-slots-requires-2 c κs = search needs
+
+same-length-2 : tie.Need-same-length-2
+same-length-2 c = search needs
+
+returns-2 : tie.Need-returns-2
+returns-2 c = let n : length (c .before .before .before .before .before .before .before .before .before .before .before .before .before .before .args .slots) ≡ 256 = search (needs, mapped) in wrote-as (ap spaced (past-some slotNumbers (c .before .before .before .before .before .before .before .before .before .before .before .before .before .before .args .slots) (c .before .before .before .before .before .before .before .before .before .before .before .before .before .before .args .length) (256) (c .before .before .before .before .before .before .before .before .before .before .before .walk-slots .result .held) (omega arith) (c .before .before .before .before .before .before .before .before .before .before .before .walk-slots .ensures .1))) (numbers-joined (c .before .before .before .before .before .before .before .before .before .before .before .walk-slots .result .held ∷ []) (told slotNumbers false (c .before .before .before .before .before .before .before .before .before .before .before .before .before .before .args .length) (take (256) (drop (c .before .before .before .before .before .before .before .before .before .before .before .before .before .before .args .length) (c .before .before .before .before .before .before .before .before .before .before .before .before .before .before .args .slots)))) (c .before .before .before .before .before .before .before .before .put .ensures) (c .before .before .walk-slots2 .ensures .0))
+
+pub put-slots-past-spec : {M : Type 1} → statement M
+put-slots-past-spec =
+    tie.close
+    (tie.spec
+    slice-aggregate-walk-slots
+    walk-slots-requires
+    put-requires
+    same-length
+    returns
+    walk-slots-requires-2
+    same-length-2
+    returns-2)

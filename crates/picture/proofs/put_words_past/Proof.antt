@@ -1,0 +1,49 @@
+-- `picture::put_words_past` meets its contract. Assumes nothing.
+use mathlib.Core.Path.{ap}
+use mathlib.Core.List.{[], _∷_}
+use native.Mathlib.Omega.{arith}
+use lib.ListN.{length, take, drop}
+use borrow.Author.Needs.{needs}
+use Rattle.picture.specs.Numbers.{spaced, told}
+use Rattle.picture.specs.Table.{wordNumbers}
+use Rattle.picture.proofs.Laws.{wrote-as, numbers-joined, past-none, past-some}
+use mathlib.Core.Bool.{false}
+use Rattle.picture.proofs.put_words_past.Statement.{statement}
+use Rattle.picture.proofs.put_words_past.Tie as tie
+
+slice-aggregate-walk-words : tie.Need-slice-aggregate-walk-words
+slice-aggregate-walk-words c = search needs
+
+walk-words-requires : tie.Need-walk-words-requires
+walk-words-requires c κs = search needs
+
+put-requires : tie.Need-put-requires
+put-requires c κs = search needs
+
+same-length : tie.Need-same-length
+same-length c = search needs
+
+returns : tie.Need-returns
+returns c = wrote-as (ap spaced (past-none wordNumbers (c .before .before .before .before .before .before .before .before .before .before .before .args .list .now) (c .before .before .before .before .before .before .before .before .before .before .before .args .length) (length (c .before .before .before .before .before .before .before .before .before .before .before .args .list .now)) (c .before .before .before .before .before .before .before .walk-words .result .held) (omega arith) (c .before .before .before .before .before .before .before .walk-words .ensures .1) (c .if1 .taken))) (c .before .before .before .before .put .ensures)
+
+walk-words-requires-2 : tie.Need-walk-words-requires-2
+walk-words-requires-2 c κs = search needs
+
+same-length-2 : tie.Need-same-length-2
+same-length-2 c = search needs
+
+returns-2 : tie.Need-returns-2
+returns-2 c = wrote-as (ap spaced (past-some wordNumbers (c .before .before .before .before .before .before .before .before .before .before .before .before .before .before .before .args .list .now) (c .before .before .before .before .before .before .before .before .before .before .before .before .before .before .before .args .length) (length (c .before .before .before .before .before .before .before .before .before .before .before .before .before .before .before .args .list .now)) (c .before .before .before .before .before .before .before .before .before .before .before .walk-words .result .held) (omega arith) (c .before .before .before .before .before .before .before .before .before .before .before .walk-words .ensures .1))) (numbers-joined (c .before .before .before .before .before .before .before .before .before .before .before .walk-words .result .held ∷ []) (told wordNumbers false (c .before .before .before .before .before .before .before .before .before .before .before .before .before .before .before .args .length) (take (length (c .before .before .before .before .before .before .before .before .before .before .before .before .before .before .before .args .list .now)) (drop (c .before .before .before .before .before .before .before .before .before .before .before .before .before .before .before .args .length) (c .before .before .before .before .before .before .before .before .before .before .before .before .before .before .before .args .list .now)))) (c .before .before .before .before .before .before .before .before .put .ensures) (c .before .before .walk-words2 .ensures .0))
+
+pub put-words-past-spec : {M : Type 1} → statement M
+put-words-past-spec =
+    tie.close
+    (tie.spec
+    slice-aggregate-walk-words
+    walk-words-requires
+    put-requires
+    same-length
+    returns
+    walk-words-requires-2
+    same-length-2
+    returns-2)
