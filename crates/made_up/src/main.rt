@@ -1,15 +1,15 @@
 // Reads made-up tables, each with one call, and writes for each the answer and the table after the call, as `rust_made_up` does of the
-// original: oracle/README.md has both forms. A case that is cut off, or has an unknown code, ends the program.
+// original: oracle/README.md has both forms. A case that is cut off, or has an unknown code, ends the program, and so does a read or a
+// write that fails.
 ghost use mathlib.Core.Path.{_≡_};
 ghost use Prim.Native.Nat.{_≤_, _<_, _^_};
 ghost use lib.ListN.{length};
-ghost use Rattle.picture.specs.Places.{Within};
+ghost use Rattle.made_up.specs.Places.{Within};
 use basics::Done;
 use eviction::Entry;
 use eviction::EvictionHeap;
 use index::Index;
 use key::CacheKey;
-use libc::STDIN_FILENO;
 use maintenance::Maintenance;
 use state::Access;
 use state::CleanEntry;
@@ -58,10 +58,11 @@ struct Taken {
     written: usize,
 }
 
-// The bytes from `at` to `have` wait.
+// The bytes from `at` to `have` wait; a read failed.
 struct Waiting {
     at: usize,
     have: usize,
+    failed: bool,
 }
 
 // Past the end of any bytes that are read here.
@@ -123,7 +124,8 @@ fn low_8(bytes: &[u8], at: usize) -> u64 {
     lower + 4294967296 * upper
 }
 
-// The first so many words of a list, and the place behind them.
+// The first so many words of a list, and the place behind them. A case does not tell what stands past them: the first place there and the last
+// hold 7, and so in the lists below, so that it is seen whether they stay.
 fn read_words(bytes: &[u8], from: usize, list: &mut [u16], count: usize) -> usize {
     let mut at = from;
     let mut i: usize = 0;
@@ -133,6 +135,11 @@ fn read_words(bytes: &[u8], from: usize, list: &mut [u16], count: usize) -> usiz
         at = over(at, 2);
         i += 1;
         left -= 1;
+    }
+    if i < list.len() {
+        let last = list.len() - 1;
+        list[i] = 7;
+        list[last] = 7;
     }
     at
 }
@@ -163,6 +170,21 @@ fn read_slots(bytes: &[u8], from: usize, count: usize) -> Slots {
         i += 1;
         left -= 1;
     }
+    if i < 256 {
+        let key = CacheKey {
+            file: 7,
+            kind: 7,
+            index: 7,
+        };
+        let behind = Slot {
+            kind: 7,
+            key: key,
+            generation: 7,
+            last_access: 7,
+        };
+        slots[i] = behind;
+        slots[255] = behind;
+    }
     Slots {
         slots: slots,
         end: at,
@@ -186,6 +208,14 @@ fn read_entries(bytes: &[u8], from: usize, count: usize) -> Entries {
         at = over(at, 10);
         i += 1;
         left -= 1;
+    }
+    if i < 256 {
+        let behind = Entry {
+            slot: 7,
+            last_access: 7,
+        };
+        entries[i] = behind;
+        entries[255] = behind;
     }
     Entries {
         entries: entries,
@@ -531,7 +561,8 @@ fn put_case(out: &mut [u8], at: usize, number: u64, case: Case, pins: &[u8]) -> 
     let ran = run(out, a, case, pins);
     let t = ran.state;
     let b = picture::put_table(out, ran.at, t);
-    picture::put_text(out, b, b"\n")
+    let c = picture::put_past(out, b, t);
+    picture::put_text(out, c, b"\n")
 }
 
 // Whether there is such a call.
@@ -586,7 +617,11 @@ fn wait(bytes: &mut [u8], from: usize, end: usize) -> Waiting
     let have = picture::least(end, bytes.len());
     let mut at = picture::least(from, have);
     if LONGEST <= have - at {
-        return Waiting { at: at, have: have };
+        return Waiting {
+            at: at,
+            have: have,
+            failed: false,
+        };
     }
     let mut to: usize = 0;
     while at < have {
@@ -594,9 +629,11 @@ fn wait(bytes: &mut [u8], from: usize, end: usize) -> Waiting
         at += 1;
         to += 1;
     }
+    let got = streams::read_block(&mut bytes[to..]);
     Waiting {
         at: 0,
-        have: to + io::read_full(STDIN_FILENO, &mut bytes[to..]),
+        have: to + got.count,
+        failed: got.failed,
     }
 }
 
@@ -610,6 +647,10 @@ fn run_all(bytes: &mut [u8], out: &mut [u8]) {
     while 0 < left {
         left -= 1;
         let waiting = wait(bytes, from, end);
+        if waiting.failed {
+            picture::flush(out, written, 0);
+            return;
+        }
         let at = waiting.at;
         let have = waiting.have;
         let taken = take_case(out, written, number, &bytes[at..have]);
@@ -617,7 +658,11 @@ fn run_all(bytes: &mut [u8], out: &mut [u8]) {
             picture::flush(out, taken.written, 0);
             return;
         }
-        written = picture::flush(out, taken.written, FULL);
+        let waits = picture::flush(out, taken.written, FULL);
+        if waits.failed {
+            return;
+        }
+        written = waits.count;
         from = at + taken.used;
         end = have;
         number = basics::one_more(number);

@@ -6,7 +6,7 @@ use mathlib.Core.List.{List, [], _∷_, _++_, append-assoc, append-nil}
 use native.Mathlib.Nat.{pow-le-pow-right}
 use lib.Dec.{ltb, lit<}
 use borrow.Author.Tests.{lt-ltb, ltb-true, ltb-false}
-use Rattle.basics.proofs.Tests.{is, yes!, no!}
+use Rattle.basics.proofs.Tests.{is, yes!, no! }
 use Rattle.io.specs.Digits.{glyph, digits, Fewest}
 use Rattle.lines.specs.Text.{digit, digitsFrom, decimal}
 use Rattle.lines.proofs.Bytes.{last-digit, more-digits}
@@ -33,9 +33,9 @@ at-most-20 n k h g =
     elim (is (ltb k 20)) [
       | yes! b ↦ ltb-true k 20 b
       | no! b ↦
-        let o = ltb-false k 20 b in
-        let big : 10 ^ 20 ≤ 10 ^ k = pow-le-pow-right (lit< tt) o in
-        absurd (omega (arith, big, g (omega arith)))
+          let o = ltb-false k 20 b in
+          let big : 10 ^ 20 ≤ 10 ^ k = pow-le-pow-right (lit< tt) o in
+          absurd (omega (arith, big, g (omega arith)))
     ]
 
 pub fewest-decimal : (n k : ℕ) → n < 2 ^ 64 → Fewest 10 1 n k → digits 10 k n ≡ decimal n

@@ -12,7 +12,7 @@ use lib.Seq.{sets, set-out, drop-cons, take-all, take-nil}
 use borrow.Author.Tests.{eq-eqb, ne-eqb, leb-true, leb-false}
 use Rattle.basics.specs.Try.{if_then_else_}
 use Rattle.basics.specs.Lists.{every}
-use Rattle.basics.proofs.Tests.{is, yes!, no!}
+use Rattle.basics.proofs.Tests.{is, yes!, no! }
 use Rattle.lines.specs.Text.{decimal, SPACE}
 use Rattle.picture.specs.Wrote.{Wrote}
 use Rattle.picture.specs.Numbers.{spaced, allZero, placed, told, held, below, past}
@@ -43,10 +43,10 @@ pub joined : {l m k a b : List ℕ} {i j n : ℕ} → Wrote l i a j m → Wrote 
 joined {l} {m} {k} {a} {b} {i} {j} {n} v w =
     record {
       bytes =
-        w .bytes ∙ ap (λ p. sets m p b) (v .place) ∙ sets-least m (i + length a) (length l) b (v .size)
-        ∙ ap (λ x. sets x (i + length a) b) (v .bytes) ∙ sym (sets-append l i a b);
+          w .bytes ∙ ap (λ p. sets m p b) (v .place) ∙ sets-least m (i + length a) (length l) b (v .size)
+          ∙ ap (λ x. sets x (i + length a) b) (v .bytes) ∙ sym (sets-append l i a b);
       place = rw (length-append a b) (omega (arith, v .place, w .place, v .size));
-      size = w .size ∙ v .size
+      size = w .size ∙ v .size;
     }
 
 -- the same text under another name
@@ -96,11 +96,11 @@ text-end {l} {text} {m} {i} {j} bytes from h g v =
     elim (is (leb (length bytes) from)) [
       | yes! b ↦ lead-end (lead-as (drop from bytes) [] (drop-of-length-le bytes (leb-true (length bytes) from b)) v) h
       | no! b ↦
-        let f = leb-false (length bytes) from b in
-        let o = g (omega arith) in
-        let e : length m ≡ j = omega arith in
-        let w : Wrote m j (drop from bytes) j m = record { bytes = sym (sets-out m j (drop from bytes) o); place = omega arith; size = refl } in
-        v j m w
+          let f = leb-false (length bytes) from b in
+          let o = g (omega arith) in
+          let e : length m ≡ j = omega arith in
+          let w : Wrote m j (drop from bytes) j m = record { bytes = sym (sets-out m j (drop from bytes) o); place = omega arith; size = refl } in
+          v j m w
     ]
 
 -- ---- numbers
@@ -127,7 +127,7 @@ pub numbers-on : {l text m k : List ℕ} {i j p : ℕ} (ns : List ℕ) (from : �
     → Leads l i text m j (spaced (drop from ns)) → Wrote m j (spaced (getD ns from 0 ∷ [])) p k → Leads l i text k p (spaced (drop (from + 1) ns))
 numbers-on ns from h v w =
     let e : spaced (drop from ns) ≡ spaced (getD ns from 0 ∷ []) ++ spaced (drop (from + 1) ns) =
-        rw (add-one, drop-cons ns from 0 h) (spaced-append (getD ns from 0 ∷ []) (drop (suc from) ns)) in
+    rw (add-one, drop-cons ns from 0 h) (spaced-append (getD ns from 0 ∷ []) (drop (suc from) ns)) in
     lead-on (spaced (getD ns from 0 ∷ [])) (spaced (drop (from + 1) ns)) (lead-as (spaced (drop from ns)) _ e v) w
 
 pub numbers-end : {l text m : List ℕ} {i j : ℕ} (ns : List ℕ) (from : ℕ) → length ns ≤ from → j ≤ length m
@@ -183,21 +183,21 @@ module _ {A : Type 0} where
       elim (is (leb k (length l))) [
         | yes! b ↦ let h = leb-true k (length l) b in let e : min k (length l) ≡ k = omega arith in rw e
         | no! b ↦
-          let h = leb-false k (length l) b in
-          take-all (min k (length l)) l (omega arith) ∙ sym (take-all k l (omega arith))
+            let h = leb-false k (length l) b in
+            take-all (min k (length l)) l (omega arith) ∙ sym (take-all k l (omega arith))
       ]
 
   pub cut : (l : List A) (from count i left : ℕ) → i ≡ min from (length l) → left ≡ min count (length l - i) → take left (drop i l) ≡ take count (drop from l)
   cut l from count i left e g =
       elim (is (leb from (length l))) [
         | yes! b ↦
-          let h = leb-true from (length l) b in
-          let s : i ≡ from = omega arith in
-          let n : left ≡ min count (length (drop from l)) = rw length-drop (omega arith) in
-          rw (n, s) (take-cut count (drop from l))
+            let h = leb-true from (length l) b in
+            let s : i ≡ from = omega arith in
+            let n : left ≡ min count (length (drop from l)) = rw length-drop (omega arith) in
+            rw (n, s) (take-cut count (drop from l))
         | no! b ↦
-          let h = leb-false from (length l) b in
-          rw (drop-of-length-le l {i = from} (omega arith), drop-of-length-le l {i = i} (omega arith), take-nil, take-nil)
+            let h = leb-false from (length l) b in
+            rw (drop-of-length-le l {i = from} (omega arith), drop-of-length-le l {i = i} (omega arith), take-nil, take-nil)
       ]
 
   pub past-all : (l : List A) (n k : ℕ) → length l ≤ k → take k (drop n l) ≡ drop n l
@@ -255,12 +255,12 @@ module _ {A : Type 0} (f : A → List ℕ) where
     told-cut l from count i left e g =
         elim (is (leb from (length l))) [
           | yes! b ↦
-            let h = leb-true from (length l) b in
-            let s : i ≡ from = omega arith in
-            ap (told f bare i) (cut l from count i left e g) ∙ ap (λ k. told f bare k (take count (drop from l))) s
+              let h = leb-true from (length l) b in
+              let s : i ≡ from = omega arith in
+              ap (told f bare i) (cut l from count i left e g) ∙ ap (λ k. told f bare k (take count (drop from l))) s
           | no! b ↦
-            let h = leb-false from (length l) b in
-            rw (drop-of-length-le l {i = from} (omega arith), drop-of-length-le l {i = i} (omega arith), take-nil, take-nil)
+              let h = leb-false from (length l) b in
+              rw (drop-of-length-le l {i = from} (omega arith), drop-of-length-le l {i = i} (omega arith), take-nil, take-nil)
         ]
 
     -- what holds on the way through a list, from the place i₀ on with so many places left: h places that are not 0 were met, and what is left to be
@@ -285,7 +285,7 @@ module _ {A : Type 0} (f : A → List ℕ) where
           size = refl;
           within = g;
           count = omega arith;
-          text = lead-start l j (spaced (told f bare i (take left (drop i xs))))
+          text = lead-start l j (spaced (told f bare i (take left (drop i xs))));
         }
 
     pub walk-on : {xs : List A} {l m k ns : List ℕ} {j i₀ left₀ n p h h₁ i left : ℕ} (d : A) → ns ≡ f (getD xs i d) → Walking xs l j i₀ left₀ m n h i left → 0 < left
@@ -297,7 +297,7 @@ module _ {A : Type 0} (f : A → List ℕ) where
         let in-list : i < length xs = omega (arith, v .fits) in
         let more : List ℕ = told f bare (i + 1) (take (left - 1) (drop (i + 1) xs)) in
         let step : spaced (told f bare i (take left (drop i xs))) ≡ spaced (placed bare i (f (getD xs i d))) ++ spaced more =
-            ap spaced (told-on xs d i left o in-list) ∙ spaced-append (placed bare i (f (getD xs i d))) more in
+        ap spaced (told-on xs d i left o in-list) ∙ spaced-append (placed bare i (f (getD xs i d))) more in
         let one : (if allZero (f (getD xs i d)) then 0 else 1) ≤ 1 = at-most-one (allZero (f (getD xs i d))) in
         record {
           fits = omega (arith, v .fits);
@@ -306,8 +306,8 @@ module _ {A : Type 0} (f : A → List ℕ) where
           within = omega (arith, w .place, w .size);
           count = omega (arith, v .count, e, held-on xs d i left o in-list);
           text =
-            lead-on (spaced (placed bare i (f (getD xs i d)))) (spaced more)
-            (lead-as (spaced (told f bare i (take left (drop i xs)))) (spaced (placed bare i (f (getD xs i d))) ++ spaced more) step (v .text)) w
+              lead-on (spaced (placed bare i (f (getD xs i d)))) (spaced more)
+              (lead-as (spaced (told f bare i (take left (drop i xs)))) (spaced (placed bare i (f (getD xs i d))) ++ spaced more) step (v .text)) w;
         }
 
     -- the end, behind nothing that was written to begin with

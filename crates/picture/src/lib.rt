@@ -172,7 +172,14 @@ fn wider(word: u16) -> u64
 }
 
 // So many places of a list from one on.
-fn walk_words(out: &mut [u8], at: usize, list: &[u16], from: usize, count: usize, bare: bool) -> Walked
+fn walk_words(
+    out: &mut [u8],
+    at: usize,
+    list: &[u16],
+    from: usize,
+    count: usize,
+    bare: bool,
+) -> Walked
     ensures { λ r. ⌜ Wrote (now (out .entry)) at (spaced (told wordNumbers bare from (take count (drop from (now (list .entry)))))) (r .at) (now (out .exit)) ⌝ }
     ensures { λ r. ⌜ r .held ≡ held wordNumbers (take count (drop from (now (list .entry)))) ⌝ }
 {
@@ -205,7 +212,14 @@ fn slot_numbers(slot: Slot) -> [u64; 6]
     ]
 }
 
-fn walk_slots(out: &mut [u8], at: usize, slots: [Slot; 256], from: usize, count: usize, bare: bool) -> Walked
+fn walk_slots(
+    out: &mut [u8],
+    at: usize,
+    slots: [Slot; 256],
+    from: usize,
+    count: usize,
+    bare: bool,
+) -> Walked
     ensures { λ r. ⌜ Wrote (now (out .entry)) at (spaced (told slotNumbers bare from (take count (drop from slots)))) (r .at) (now (out .exit)) ⌝ }
     ensures { λ r. ⌜ r .held ≡ held slotNumbers (take count (drop from slots)) ⌝ }
 {
@@ -231,7 +245,14 @@ fn entry_numbers(entry: Entry) -> [u64; 2]
     [wider(entry.slot), entry.last_access]
 }
 
-fn walk_entries(out: &mut [u8], at: usize, entries: [Entry; 256], from: usize, count: usize, bare: bool) -> Walked
+fn walk_entries(
+    out: &mut [u8],
+    at: usize,
+    entries: [Entry; 256],
+    from: usize,
+    count: usize,
+    bare: bool,
+) -> Walked
     ensures { λ r. ⌜ Wrote (now (out .entry)) at (spaced (told entryNumbers bare from (take count (drop from entries)))) (r .at) (now (out .exit)) ⌝ }
     ensures { λ r. ⌜ r .held ≡ held entryNumbers (take count (drop from entries)) ⌝ }
 {

@@ -1,14 +1,16 @@
 // Runs a sheet from standard input, and writes for each record its line and the whole table behind it: the trace of oracle/README.md,
-// which `rust_sheet --trace` writes of the original.
+// which `rust_sheet --trace` writes of the original. A read or a write that fails ends it.
 ghost use mathlib.Core.Path.{_≡_};
-ghost use lib.ListN.{length};
-ghost use Rattle.picture.specs.Places.{Within};
-use libc::STDIN_FILENO;
+ghost use lib.ListN.{length, drop};
+ghost use Rattle.lines.specs.Words.{textOf};
+ghost use Rattle.picture.specs.Wrote.{Wrote};
+ghost use Rattle.trace.specs.Record.{front, standingNumbers, recordText};
+ghost use Rattle.picture.specs.Numbers.{spaced};
 use lines::Line;
 use lines::Said;
 use steps::Standing;
 
-// What stands after a block of records, and whether it ended in a bad one.
+// What stands after a block of records, and whether there is an end: a bad record, or a write that failed.
 struct Ran {
     standing: Standing,
     number: u64,
@@ -20,7 +22,7 @@ const FULL: usize = 131072;
 
 // Some bytes from a place on, without the last.
 fn put_but_last(out: &mut [u8], at: usize, text: &[u8], from: usize) -> usize
-    ensures { λ r. ⌜ Within r (now (out .entry)) (now (out .exit)) ⌝ }
+    ensures { λ r. ⌜ Wrote (now (out .entry)) at (front (drop from (now (text .entry)))) r (now (out .exit)) ⌝ }
 {
     if text.len() <= from {
         return picture::put_text(out, at, b"");
@@ -31,15 +33,49 @@ fn put_but_last(out: &mut [u8], at: usize, text: &[u8], from: usize) -> usize
 
 // A line without its end.
 fn put_line(out: &mut [u8], at: usize, line: Line) -> usize
-    ensures { λ r. ⌜ Within r (now (out .entry)) (now (out .exit)) ⌝ }
+    ensures { λ r. ⌜ Wrote (now (out .entry)) at (front (textOf line)) r (now (out .exit)) ⌝ }
 {
     let bytes = line.bytes;
     put_but_last(out, at, &bytes, line.from)
 }
 
-// The text of a record: its line, and but for a bad one the table and the pins.
+fn wide(byte: u8) -> u16
+    ensures { λ r. ⌜ r ≡ byte ⌝ }
+{
+    byte as u16
+}
+
+// The pins, as numbers of 16 bits.
+fn pin_words(pins: [u8; 256]) -> [u16; 256]
+    ensures { λ r. ⌜ r ≡ pins ⌝ }
+{
+    let mut words: [u16; 256] = [0; 256];
+    let mut i: usize = 0;
+    let mut left: usize = 256;
+    while 0 < left {
+        words[i] = wide(pins[i]);
+        i += 1;
+        left -= 1;
+    }
+    words
+}
+
+// The table and the pins, and of both what stands past the lengths.
+fn put_standing(out: &mut [u8], at: usize, s: Standing) -> usize
+    ensures { λ r. ⌜ Wrote (now (out .entry)) at (spaced (standingNumbers s)) r (now (out .exit)) ⌝ }
+{
+    let t = s.state;
+    let bytes = s.pins;
+    let pins = pin_words(bytes);
+    let a = picture::put_table(out, at, t);
+    let b = picture::put_words(out, a, &pins, t.capacity);
+    let c = picture::put_past(out, b, t);
+    picture::put_words_past(out, c, &pins, t.capacity)
+}
+
+// The text of a record: its line, and but for a bad one what stands after it.
 fn put_record(out: &mut [u8], at: usize, number: u64, said: Said, s: Standing) -> usize
-    ensures { λ r. ⌜ Within r (now (out .entry)) (now (out .exit)) ⌝ }
+    ensures { λ r. ⌜ Wrote (now (out .entry)) at (recordText number said s) r (now (out .exit)) ⌝ }
 {
     let t = s.state;
     let line = lines::line_of(number, said, t.clean, t.loading);
@@ -47,10 +83,8 @@ fn put_record(out: &mut [u8], at: usize, number: u64, said: Said, s: Standing) -
     if lines::is_bad(said) {
         return picture::put_text(out, a, b"\n");
     }
-    let pins = s.pins;
-    let b = picture::put_table(out, a, t);
-    let c = picture::put_bytes(out, b, &pins, t.capacity);
-    picture::put_text(out, c, b"\n")
+    let b = put_standing(out, a, s);
+    picture::put_text(out, b, b"\n")
 }
 
 // The records of a block.
@@ -74,15 +108,23 @@ fn run(standing: Standing, first: u64, bytes: &[u8], out: &mut [u8]) -> Ran
                 ended: true,
             };
         }
-        written = picture::flush(out, written, FULL);
+        let waits = picture::flush(out, written, FULL);
+        if waits.failed {
+            return Ran {
+                standing: s,
+                number: number,
+                ended: true,
+            };
+        }
+        written = waits.count;
         number = basics::one_more(number);
         at += picture::least(bytes.len() - at, lines::RECORD);
     }
-    picture::flush(out, written, 0);
+    let last = picture::flush(out, written, 0);
     Ran {
         standing: s,
         number: number,
-        ended: false,
+        ended: last.failed,
     }
 }
 
@@ -93,12 +135,16 @@ fn run_all(bytes: &mut [u8], out: &mut [u8]) {
     let mut blocks: u64 = basics::MAX;
     while 0 < blocks {
         blocks -= 1;
-        let got = io::read_full(STDIN_FILENO, bytes);
-        let ran = run(standing, number, &bytes[..got], out);
+        let got = streams::read_block(bytes);
+        if got.failed {
+            return;
+        }
+        let count = got.count;
+        let ran = run(standing, number, &bytes[..count], out);
         if ran.ended {
             return;
         }
-        if got < bytes.len() {
+        if count < bytes.len() {
             return;
         }
         standing = ran.standing;

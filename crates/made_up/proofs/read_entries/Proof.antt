@@ -21,8 +21,8 @@ loop-holds c = search needs
 low-2-requires : tie.Need-low-2-requires Inv-loop μ-loop
 low-2-requires c κs = search needs
 
-cast-t11 : tie.Need-cast-t11 Inv-loop μ-loop
-cast-t11 c = search needs
+cast-t12 : tie.Need-cast-t12 Inv-loop μ-loop
+cast-t12 c = search needs
 
 over-requires : tie.Need-over-requires Inv-loop μ-loop
 over-requires c κs = search needs
@@ -51,8 +51,20 @@ loop-less c = search needs
 loop-again : tie.Need-loop-again Inv-loop μ-loop
 loop-again c = search needs
 
+mul-entries-2 : tie.Need-mul-entries-2 Inv-loop μ-loop
+mul-entries-2 c = search needs
+
+array-set-from-entries-2 : tie.Need-array-set-from-entries-2 Inv-loop μ-loop
+array-set-from-entries-2 c = search needs
+
+array-set-from-entries-3 : tie.Need-array-set-from-entries-3 Inv-loop μ-loop
+array-set-from-entries-3 c = search needs
+
 returns : tie.Need-returns Inv-loop μ-loop
 returns c = search needs
+
+returns-2 : tie.Need-returns-2 Inv-loop μ-loop
+returns-2 c = search needs
 
 pub read-entries-spec : {M : Type 1} → statement M
 read-entries-spec =
@@ -63,7 +75,7 @@ read-entries-spec =
     least-requires
     loop-holds
     low-2-requires
-    cast-t11
+    cast-t12
     over-requires
     low-8-requires
     mul-entries
@@ -73,4 +85,8 @@ read-entries-spec =
     sub-left
     loop-less
     loop-again
-    returns)
+    mul-entries-2
+    array-set-from-entries-2
+    array-set-from-entries-3
+    returns
+    returns-2)

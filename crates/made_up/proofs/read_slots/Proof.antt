@@ -63,8 +63,20 @@ loop-less c = search needs
 loop-again : tie.Need-loop-again Inv-loop μ-loop
 loop-again c = search needs
 
+mul-slots-2 : tie.Need-mul-slots-2 Inv-loop μ-loop
+mul-slots-2 c = search needs
+
+array-set-from-slots-2 : tie.Need-array-set-from-slots-2 Inv-loop μ-loop
+array-set-from-slots-2 c = search needs
+
+array-set-from-slots-3 : tie.Need-array-set-from-slots-3 Inv-loop μ-loop
+array-set-from-slots-3 c = search needs
+
 returns : tie.Need-returns Inv-loop μ-loop
 returns c = search needs
+
+returns-2 : tie.Need-returns-2 Inv-loop μ-loop
+returns-2 c = search needs
 
 pub read-slots-spec : {M : Type 1} → statement M
 read-slots-spec =
@@ -89,4 +101,8 @@ read-slots-spec =
     sub-left
     loop-less
     loop-again
-    returns)
+    mul-slots-2
+    array-set-from-slots-2
+    array-set-from-slots-3
+    returns
+    returns-2)

@@ -1,7 +1,8 @@
 -- `made_up::read_words` meets its contract. The invariant: the places that are left are within the list, which stays as long as it was. Assumes nothing.
 use Prim.Native.Nat.{_+_, _≤_}
 use mathlib.Core.Path.{_≡_}
-use lib.ListN.{length}
+use native.Mathlib.Omega.{arith}
+use lib.ListN.{length, length-set}
 use borrow.Author.Needs.{needs}
 use Rattle.made_up.proofs.read_words.Statement.{statement}
 use Rattle.made_up.proofs.read_words.Tie as tie
@@ -45,11 +46,32 @@ loop-less c = search needs
 loop-again : tie.Need-loop-again Inv-loop μ-loop
 loop-again c = search needs
 
+sub-last : tie.Need-sub-last Inv-loop μ-loop
+sub-last c = search needs
+
+mul-list-2 : tie.Need-mul-list-2 Inv-loop μ-loop
+mul-list-2 c = search needs
+
+slice-write-list-2 : tie.Need-slice-write-list-2 Inv-loop μ-loop
+slice-write-list-2 c = search needs
+
+mul-list-3 : tie.Need-mul-list-3 Inv-loop μ-loop
+mul-list-3 c = search needs
+
+slice-write-list-3 : tie.Need-slice-write-list-3 Inv-loop μ-loop
+slice-write-list-3 c = simp length-set (omega arith)
+
 same-length : tie.Need-same-length Inv-loop μ-loop
 same-length c = search needs
 
 returns : tie.Need-returns Inv-loop μ-loop
 returns c = search needs
+
+same-length-2 : tie.Need-same-length-2 Inv-loop μ-loop
+same-length-2 c = search needs
+
+returns-2 : tie.Need-returns-2 Inv-loop μ-loop
+returns-2 c = search needs
 
 pub read-words-spec : {M : Type 1} → statement M
 read-words-spec =
@@ -68,5 +90,12 @@ read-words-spec =
     sub-left
     loop-less
     loop-again
+    sub-last
+    mul-list-2
+    slice-write-list-2
+    mul-list-3
+    slice-write-list-3
     same-length
-    returns)
+    returns
+    same-length-2
+    returns-2)

@@ -45,20 +45,20 @@ loop-less c = search needs
 loop-again : tie.Need-loop-again Inv-loop μ-loop
 loop-again c = search needs
 
-sub-read-full : tie.Need-sub-read-full Inv-loop μ-loop
-sub-read-full c = search needs
+sub-read-block : tie.Need-sub-read-block Inv-loop μ-loop
+sub-read-block c = search needs
 
-part-read-full-start : tie.Need-part-read-full-start Inv-loop μ-loop
-part-read-full-start c = search needs
+part-read-block-start : tie.Need-part-read-block-start Inv-loop μ-loop
+part-read-block-start c = search needs
 
-part-read-full-end : tie.Need-part-read-full-end Inv-loop μ-loop
-part-read-full-end c = search needs
+part-read-block-end : tie.Need-part-read-block-end Inv-loop μ-loop
+part-read-block-end c = search needs
 
-read-full-requires : tie.Need-read-full-requires Inv-loop μ-loop
-read-full-requires c κs = search needs
+read-block-requires : tie.Need-read-block-requires Inv-loop μ-loop
+read-block-requires c κs = search needs
 
-add-t17 : tie.Need-add-t17 Inv-loop μ-loop
-add-t17 c = search needs
+add-t8 : tie.Need-add-t8 Inv-loop μ-loop
+add-t8 c = search needs
 
 same-length : tie.Need-same-length Inv-loop μ-loop
 same-length c = search needs
@@ -83,10 +83,10 @@ wait-spec =
     add-to
     loop-less
     loop-again
-    sub-read-full
-    part-read-full-start
-    part-read-full-end
-    read-full-requires
-    add-t17
+    sub-read-block
+    part-read-block-start
+    part-read-block-end
+    read-block-requires
+    add-t8
     same-length
     returns-2)

@@ -1,5 +1,6 @@
--- `trace::run` meets its contract. The invariant: the place is within the block. Assumes nothing.
-use Prim.Native.Nat.{_-_, _≤_}
+-- `trace::run` meets its contract. The invariant: the place is within the block, whose length is that of a slice. Assumes nothing.
+use Prim.Native.Nat.{_-_, _^_, _≤_, _<_}
+use native.Mathlib.Omega.{arith}
 use mathlib.Core.Path.{_≡_}
 use lib.ListN.{length}
 use borrow.Author.Needs.{needs}
@@ -7,7 +8,7 @@ use Rattle.trace.proofs.run.Statement.{statement}
 use Rattle.trace.proofs.run.Tie as tie
 
 abbrev Inv-loop : tie.InvT-loop
-Inv-loop first bytes out₀ s₀ number₀ written₀ at₀ out s number written at = (at ≤ length bytes) × (length out ≡ length out₀)
+Inv-loop first bytes out₀ s₀ number₀ written₀ at₀ out s number written at = (at ≤ length bytes) × (length out ≡ length out₀) × (length bytes < 2 ^ 64)
 
 abbrev μ-loop : tie.MeasureT-loop
 μ-loop first bytes out₀ s₀ number₀ written₀ at₀ out s number written at = length bytes - at
@@ -45,6 +46,12 @@ returns c = search needs
 flush-requires-2 : tie.Need-flush-requires-2 Inv-loop μ-loop
 flush-requires-2 c κs = search needs
 
+same-length-2 : tie.Need-same-length-2 Inv-loop μ-loop
+same-length-2 c = search needs
+
+returns-2 : tie.Need-returns-2 Inv-loop μ-loop
+returns-2 c = search needs
+
 one-more-requires : tie.Need-one-more-requires Inv-loop μ-loop
 one-more-requires c κs = search needs
 
@@ -55,7 +62,7 @@ least-requires : tie.Need-least-requires Inv-loop μ-loop
 least-requires c κs = search needs
 
 add-at : tie.Need-add-at Inv-loop μ-loop
-add-at c = search needs
+add-at c = record { fits = omega (arith, c .before .before .before .before .before .before .before .before .before .before .before .before .before .before .before .loop .inv .0, c .before .before .before .before .before .before .before .before .before .before .before .before .before .before .before .loop .inv .2, c .least .ensures) }
 
 loop-less : tie.Need-loop-less Inv-loop μ-loop
 loop-less c = search needs
@@ -66,11 +73,11 @@ loop-again c = search needs
 flush-requires-3 : tie.Need-flush-requires-3 Inv-loop μ-loop
 flush-requires-3 c κs = search needs
 
-same-length-2 : tie.Need-same-length-2 Inv-loop μ-loop
-same-length-2 c = search needs
+same-length-3 : tie.Need-same-length-3 Inv-loop μ-loop
+same-length-3 c = search needs
 
-returns-2 : tie.Need-returns-2 Inv-loop μ-loop
-returns-2 c = search needs
+returns-3 : tie.Need-returns-3 Inv-loop μ-loop
+returns-3 c = search needs
 
 pub run-spec : {M : Type 1} → statement M
 run-spec =
@@ -89,6 +96,8 @@ run-spec =
     same-length
     returns
     flush-requires-2
+    same-length-2
+    returns-2
     one-more-requires
     sub-least
     least-requires
@@ -96,5 +105,5 @@ run-spec =
     loop-less
     loop-again
     flush-requires-3
-    same-length-2
-    returns-2)
+    same-length-3
+    returns-3)
