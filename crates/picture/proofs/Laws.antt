@@ -15,7 +15,7 @@ use Rattle.basics.specs.Lists.{every}
 use Rattle.basics.proofs.Tests.{is, yes!, no! }
 use Rattle.lines.specs.Text.{decimal, SPACE}
 use Rattle.picture.specs.Wrote.{Wrote}
-use Rattle.picture.specs.Numbers.{spaced, allZero, placed, told, held, below, past}
+use Rattle.picture.specs.Numbers.{spaced, allZero, placed, told, held, past}
 use Rattle.picture.specs.Table.{wordNumbers}
 
 -- ---- stores

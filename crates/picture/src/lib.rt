@@ -97,7 +97,7 @@ pub fn put(out: &mut [u8], at: usize, n: u64) -> usize
 }
 
 // Some numbers.
-pub fn put_numbers(out: &mut [u8], at: usize, numbers: &[u64]) -> usize
+fn put_numbers(out: &mut [u8], at: usize, numbers: &[u64]) -> usize
     ensures { λ r. ⌜ Wrote (now (out .entry)) at (spaced (now (numbers .entry))) r (now (out .exit)) ⌝ }
 {
     let mut to = put_text(out, at, b"");

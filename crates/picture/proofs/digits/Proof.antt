@@ -8,7 +8,7 @@ use Rattle.picture.proofs.digits.Statement.{statement}
 use Rattle.picture.proofs.digits.Tie as tie
 
 decimal-requires : tie.Need-decimal-requires
-decimal-requires c κs = search needs
+decimal-requires c κs = tt
 
 array-share-prefix-text : tie.Need-array-share-prefix-text
 array-share-prefix-text c = search needs
@@ -17,10 +17,10 @@ slice-aggregate-put-text : tie.Need-slice-aggregate-put-text
 slice-aggregate-put-text c = search needs
 
 put-text-requires : tie.Need-put-text-requires
-put-text-requires c κs = search needs
+put-text-requires c κs = tt
 
 same-length : tie.Need-same-length
-same-length c = search needs
+same-length c = c .before .before .put-text .ensures .size
 
 returns : tie.Need-returns
 returns c = wrote-as (c .before .before .before .before .before .decimal .ensures .1 .1 ∙ fewest-decimal (c .before .before .before .before .before .before .before .before .args .n) (c .before .before .before .before .before .decimal .result) (omega arith) (c .before .before .before .before .before .decimal .ensures .1 .0)) (c .before .before .put-text .ensures)

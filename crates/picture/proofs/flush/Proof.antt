@@ -5,12 +5,11 @@ use native.Mathlib.Omega.{arith}
 use lib.ListN.{length}
 use lib.Seq.{length-take-le}
 use borrow.Author.Tests.{le-leb, lt-leb}
-use borrow.Author.Needs.{needs}
 use Rattle.picture.proofs.flush.Statement.{statement}
 use Rattle.picture.proofs.flush.Tie as tie
 
 least-requires : tie.Need-least-requires
-least-requires c κs = search needs
+least-requires c κs = tt
 
 returns : tie.Need-returns
 returns c = (rw (le-leb (min (c .before .before .before .args .at) (length (c .before .before .before .args .out .now))) (c .before .before .before .args .most) (omega arith)) (c .before .least .ensures), λ h. refl)
@@ -19,7 +18,7 @@ slice-aggregate-write-out : tie.Need-slice-aggregate-write-out
 slice-aggregate-write-out c = sym (length-take-le _ _ (omega arith))
 
 write-out-requires : tie.Need-write-out-requires
-write-out-requires c κs = search needs
+write-out-requires c κs = tt
 
 returns-2 : tie.Need-returns-2
 returns-2 c = (rw (lt-leb (min (c .before .before .before .before .before .args .at) (length (c .before .before .before .before .before .args .out .now))) (c .before .before .before .before .before .args .most) (omega arith)), λ h. absurd (omega arith))

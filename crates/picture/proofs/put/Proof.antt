@@ -1,4 +1,5 @@
 -- `picture::put` meets its contract. Assumes nothing.
+use mathlib.Core.Path.{_∙_}
 use borrow.Author.Needs.{needs}
 use Rattle.picture.proofs.Laws.{joined, wrote-as, spaced-one}
 use Rattle.picture.proofs.put.Statement.{statement}
@@ -8,13 +9,13 @@ slice-aggregate-put-text : tie.Need-slice-aggregate-put-text
 slice-aggregate-put-text c = search needs
 
 put-text-requires : tie.Need-put-text-requires
-put-text-requires c κs = search needs
+put-text-requires c κs = tt
 
 digits-requires : tie.Need-digits-requires
-digits-requires c κs = search needs
+digits-requires c κs = tt
 
 same-length : tie.Need-same-length
-same-length c = search needs
+same-length c = c .before .before .digits .ensures .size ∙ c .before .before .before .before .before .before .put-text .ensures .size
 
 returns : tie.Need-returns
 returns c = wrote-as (spaced-one (c .before .before .before .before .before .before .before .before .before .before .args .n)) (joined (c .before .before .before .before .before .before .put-text .ensures) (c .before .before .digits .ensures))

@@ -1,5 +1,5 @@
 -- `picture::put_entries_past` meets its contract. Assumes nothing.
-use mathlib.Core.Path.{_≡_, ap}
+use mathlib.Core.Path.{_∙_, _≡_, ap}
 use mathlib.Core.List.{[], _∷_}
 use native.Mathlib.Omega.{arith}
 use lib.ListN.{length, take, drop}
@@ -15,22 +15,22 @@ slice-aggregate-walk-entries : tie.Need-slice-aggregate-walk-entries
 slice-aggregate-walk-entries c = search needs
 
 walk-entries-requires : tie.Need-walk-entries-requires
-walk-entries-requires c κs = search needs
+walk-entries-requires c κs = tt
 
 put-requires : tie.Need-put-requires
-put-requires c κs = search needs
+put-requires c κs = tt
 
 same-length : tie.Need-same-length
-same-length c = search needs
+same-length c = c .before .before .before .before .put .ensures .size
 
 returns : tie.Need-returns
 returns c = let n : length (c .before .before .before .before .before .before .before .before .before .before .args .entries) ≡ 256 = search (needs, mapped) in wrote-as (ap spaced (past-none entryNumbers (c .before .before .before .before .before .before .before .before .before .before .args .entries) (c .before .before .before .before .before .before .before .before .before .before .args .length) (256) (c .before .before .before .before .before .before .before .walk-entries .result .held) (omega arith) (c .before .before .before .before .before .before .before .walk-entries .ensures .1) (c .if1 .taken))) (c .before .before .before .before .put .ensures)
 
 walk-entries-requires-2 : tie.Need-walk-entries-requires-2
-walk-entries-requires-2 c κs = search needs
+walk-entries-requires-2 c κs = tt
 
 same-length-2 : tie.Need-same-length-2
-same-length-2 c = search needs
+same-length-2 c = c .before .before .walk-entries2 .ensures .0 .size ∙ c .before .before .before .before .before .before .before .before .put .ensures .size
 
 returns-2 : tie.Need-returns-2
 returns-2 c = let n : length (c .before .before .before .before .before .before .before .before .before .before .before .before .before .before .args .entries) ≡ 256 = search (needs, mapped) in wrote-as (ap spaced (past-some entryNumbers (c .before .before .before .before .before .before .before .before .before .before .before .before .before .before .args .entries) (c .before .before .before .before .before .before .before .before .before .before .before .before .before .before .args .length) (256) (c .before .before .before .before .before .before .before .before .before .before .before .walk-entries .result .held) (omega arith) (c .before .before .before .before .before .before .before .before .before .before .before .walk-entries .ensures .1))) (numbers-joined (c .before .before .before .before .before .before .before .before .before .before .before .walk-entries .result .held ∷ []) (told entryNumbers false (c .before .before .before .before .before .before .before .before .before .before .before .before .before .before .args .length) (take (256) (drop (c .before .before .before .before .before .before .before .before .before .before .before .before .before .before .args .length) (c .before .before .before .before .before .before .before .before .before .before .before .before .before .before .args .entries)))) (c .before .before .before .before .before .before .before .before .put .ensures) (c .before .before .walk-entries2 .ensures .0))

@@ -1,4 +1,5 @@
 -- `picture::put_heap` meets its contract. Assumes nothing.
+use mathlib.Core.Path.{_∙_}
 use borrow.Author.Needs.{needs}
 use Rattle.picture.specs.Numbers.{below}
 use Rattle.picture.specs.Table.{heapNumbers}
@@ -7,19 +8,19 @@ use Rattle.picture.proofs.put_heap.Statement.{statement}
 use Rattle.picture.proofs.put_heap.Tie as tie
 
 put-requires : tie.Need-put-requires
-put-requires c κs = search needs
+put-requires c κs = tt
 
 walk-entries-requires : tie.Need-walk-entries-requires
-walk-entries-requires c κs = search needs
+walk-entries-requires c κs = tt
 
 slice-aggregate-put-words : tie.Need-slice-aggregate-put-words
 slice-aggregate-put-words c = search needs
 
 put-words-requires : tie.Need-put-words-requires
-put-words-requires c κs = search needs
+put-words-requires c κs = tt
 
 same-length : tie.Need-same-length
-same-length c = search needs
+same-length c = c .before .before .put-words .ensures .size ∙ c .before .before .before .before .before .before .before .walk-entries .ensures .0 .size ∙ c .before .before .before .before .before .before .before .before .before .before .before .put .ensures .size
 
 returns : tie.Need-returns
 unfolding heapNumbers below

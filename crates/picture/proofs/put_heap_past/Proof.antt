@@ -1,4 +1,5 @@
 -- `picture::put_heap_past` meets its contract. Assumes nothing.
+use mathlib.Core.Path.{_∙_}
 use borrow.Author.Needs.{needs}
 use Rattle.picture.specs.Table.{heapPast}
 use Rattle.picture.proofs.Laws.{numbers-joined}
@@ -6,16 +7,16 @@ use Rattle.picture.proofs.put_heap_past.Statement.{statement}
 use Rattle.picture.proofs.put_heap_past.Tie as tie
 
 put-entries-past-requires : tie.Need-put-entries-past-requires
-put-entries-past-requires c κs = search needs
+put-entries-past-requires c κs = tt
 
 slice-aggregate-put-words-past : tie.Need-slice-aggregate-put-words-past
 slice-aggregate-put-words-past c = search needs
 
 put-words-past-requires : tie.Need-put-words-past-requires
-put-words-past-requires c κs = search needs
+put-words-past-requires c κs = tt
 
 same-length : tie.Need-same-length
-same-length c = search needs
+same-length c = c .before .before .put-words-past .ensures .size ∙ c .before .before .before .before .before .before .before .put-entries-past .ensures .size
 
 returns : tie.Need-returns
 unfolding heapPast

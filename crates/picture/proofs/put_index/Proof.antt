@@ -1,4 +1,5 @@
 -- `picture::put_index` meets its contract. Assumes nothing.
+use mathlib.Core.Path.{_∙_}
 use borrow.Author.Needs.{needs}
 use Rattle.picture.specs.Table.{indexNumbers}
 use Rattle.picture.proofs.Laws.{numbers-joined}
@@ -6,31 +7,31 @@ use Rattle.picture.proofs.put_index.Statement.{statement}
 use Rattle.picture.proofs.put_index.Tie as tie
 
 put-requires : tie.Need-put-requires
-put-requires c κs = search needs
+put-requires c κs = tt
 
 slice-aggregate-put-words : tie.Need-slice-aggregate-put-words
 slice-aggregate-put-words c = search needs
 
 put-words-requires : tie.Need-put-words-requires
-put-words-requires c κs = search needs
+put-words-requires c κs = tt
 
 slice-aggregate-put-words-2 : tie.Need-slice-aggregate-put-words-2
 slice-aggregate-put-words-2 c = search needs
 
 put-words-requires-2 : tie.Need-put-words-requires-2
-put-words-requires-2 c κs = search needs
+put-words-requires-2 c κs = tt
 
 put-requires-2 : tie.Need-put-requires-2
-put-requires-2 c κs = search needs
+put-requires-2 c κs = tt
 
 slice-aggregate-put-words-3 : tie.Need-slice-aggregate-put-words-3
 slice-aggregate-put-words-3 c = search needs
 
 put-words-requires-3 : tie.Need-put-words-requires-3
-put-words-requires-3 c κs = search needs
+put-words-requires-3 c κs = tt
 
 same-length : tie.Need-same-length
-same-length c = search needs
+same-length c = c .before .before .put-words3 .ensures .size ∙ c .before .before .before .before .before .before .before .put2 .ensures .size ∙ c .before .before .before .before .before .before .before .before .before .before .before .put-words2 .ensures .size ∙ c .before .before .before .before .before .before .before .before .before .before .before .before .before .before .before .before .put-words .ensures .size ∙ c .before .before .before .before .before .before .before .before .before .before .before .before .before .before .before .before .before .before .before .before .before .put .ensures .size
 
 returns : tie.Need-returns
 unfolding indexNumbers

@@ -1,21 +1,21 @@
 -- `picture::put_past` meets its contract. Assumes nothing.
-use borrow.Author.Needs.{needs}
+use mathlib.Core.Path.{_∙_}
 use Rattle.picture.specs.Table.{pastNumbers}
 use Rattle.picture.proofs.Laws.{numbers-joined}
 use Rattle.picture.proofs.put_past.Statement.{statement}
 use Rattle.picture.proofs.put_past.Tie as tie
 
 put-slots-past-requires : tie.Need-put-slots-past-requires
-put-slots-past-requires c κs = search needs
+put-slots-past-requires c κs = tt
 
 put-index-past-requires : tie.Need-put-index-past-requires
-put-index-past-requires c κs = search needs
+put-index-past-requires c κs = tt
 
 put-heap-past-requires : tie.Need-put-heap-past-requires
-put-heap-past-requires c κs = search needs
+put-heap-past-requires c κs = tt
 
 same-length : tie.Need-same-length
-same-length c = search needs
+same-length c = c .before .before .put-heap-past .ensures .size ∙ c .before .before .before .before .before .before .put-index-past .ensures .size ∙ c .before .before .before .before .before .before .before .before .before .before .put-slots-past .ensures .size
 
 returns : tie.Need-returns
 unfolding pastNumbers

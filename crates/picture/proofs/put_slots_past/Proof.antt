@@ -1,5 +1,5 @@
 -- `picture::put_slots_past` meets its contract. Assumes nothing.
-use mathlib.Core.Path.{_≡_, ap}
+use mathlib.Core.Path.{_∙_, _≡_, ap}
 use mathlib.Core.List.{[], _∷_}
 use native.Mathlib.Omega.{arith}
 use lib.ListN.{length, take, drop}
@@ -15,22 +15,22 @@ slice-aggregate-walk-slots : tie.Need-slice-aggregate-walk-slots
 slice-aggregate-walk-slots c = search needs
 
 walk-slots-requires : tie.Need-walk-slots-requires
-walk-slots-requires c κs = search needs
+walk-slots-requires c κs = tt
 
 put-requires : tie.Need-put-requires
-put-requires c κs = search needs
+put-requires c κs = tt
 
 same-length : tie.Need-same-length
-same-length c = search needs
+same-length c = c .before .before .before .before .put .ensures .size
 
 returns : tie.Need-returns
 returns c = let n : length (c .before .before .before .before .before .before .before .before .before .before .args .slots) ≡ 256 = search (needs, mapped) in wrote-as (ap spaced (past-none slotNumbers (c .before .before .before .before .before .before .before .before .before .before .args .slots) (c .before .before .before .before .before .before .before .before .before .before .args .length) (256) (c .before .before .before .before .before .before .before .walk-slots .result .held) (omega arith) (c .before .before .before .before .before .before .before .walk-slots .ensures .1) (c .if1 .taken))) (c .before .before .before .before .put .ensures)
 
 walk-slots-requires-2 : tie.Need-walk-slots-requires-2
-walk-slots-requires-2 c κs = search needs
+walk-slots-requires-2 c κs = tt
 
 same-length-2 : tie.Need-same-length-2
-same-length-2 c = search needs
+same-length-2 c = c .before .before .walk-slots2 .ensures .0 .size ∙ c .before .before .before .before .before .before .before .before .put .ensures .size
 
 returns-2 : tie.Need-returns-2
 returns-2 c = let n : length (c .before .before .before .before .before .before .before .before .before .before .before .before .before .before .args .slots) ≡ 256 = search (needs, mapped) in wrote-as (ap spaced (past-some slotNumbers (c .before .before .before .before .before .before .before .before .before .before .before .before .before .before .args .slots) (c .before .before .before .before .before .before .before .before .before .before .before .before .before .before .args .length) (256) (c .before .before .before .before .before .before .before .before .before .before .before .walk-slots .result .held) (omega arith) (c .before .before .before .before .before .before .before .before .before .before .before .walk-slots .ensures .1))) (numbers-joined (c .before .before .before .before .before .before .before .before .before .before .before .walk-slots .result .held ∷ []) (told slotNumbers false (c .before .before .before .before .before .before .before .before .before .before .before .before .before .before .args .length) (take (256) (drop (c .before .before .before .before .before .before .before .before .before .before .before .before .before .before .args .length) (c .before .before .before .before .before .before .before .before .before .before .before .before .before .before .args .slots)))) (c .before .before .before .before .before .before .before .before .put .ensures) (c .before .before .walk-slots2 .ensures .0))

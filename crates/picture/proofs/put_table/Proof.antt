@@ -1,4 +1,5 @@
 -- `picture::put_table` meets its contract. Assumes nothing.
+use mathlib.Core.Path.{_∙_}
 use borrow.Author.Needs.{needs}
 use Rattle.picture.specs.Numbers.{below}
 use Rattle.picture.specs.Table.{tableNumbers}
@@ -10,19 +11,19 @@ slice-aggregate-put-numbers : tie.Need-slice-aggregate-put-numbers
 slice-aggregate-put-numbers c = search needs
 
 put-numbers-requires : tie.Need-put-numbers-requires
-put-numbers-requires c κs = search needs
+put-numbers-requires c κs = tt
 
 walk-slots-requires : tie.Need-walk-slots-requires
-walk-slots-requires c κs = search needs
+walk-slots-requires c κs = tt
 
 put-index-requires : tie.Need-put-index-requires
-put-index-requires c κs = search needs
+put-index-requires c κs = tt
 
 put-heap-requires : tie.Need-put-heap-requires
-put-heap-requires c κs = search needs
+put-heap-requires c κs = tt
 
 same-length : tie.Need-same-length
-same-length c = search needs
+same-length c = c .before .before .put-heap .ensures .size ∙ c .before .before .before .before .before .before .put-index .ensures .size ∙ c .before .before .before .before .before .before .before .before .before .before .walk-slots .ensures .0 .size ∙ c .before .before .before .before .before .before .before .before .before .before .before .before .before .before .put-numbers .ensures .size
 
 returns : tie.Need-returns
 unfolding tableNumbers below

@@ -5,7 +5,7 @@ use mathlib.Core.Path.{_≡_}
 use native.Mathlib.Omega.{arith}
 use lib.ListN.{length, drop, length-set}
 use borrow.Author.Needs.{needs}
-use Rattle.picture.proofs.Laws.{Leads, lead-start, no-room, text-on, text-end}
+use Rattle.picture.proofs.Laws.{Leads, no-room, text-on, text-end}
 use Rattle.picture.proofs.put_text.Statement.{statement}
 use Rattle.picture.proofs.put_text.Tie as tie
 
@@ -19,7 +19,7 @@ returns : tie.Need-returns Inv-loop μ-loop
 returns c = no-room (c .before .before .before .args .out .now) (c .before .before .before .args .at) (c .before .before .before .args .text .now) (omega arith)
 
 least-requires : tie.Need-least-requires Inv-loop μ-loop
-least-requires c κs = search needs
+least-requires c κs = tt
 
 loop-holds : tie.Need-loop-holds Inv-loop μ-loop
 loop-holds c = search needs

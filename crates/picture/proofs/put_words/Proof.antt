@@ -1,17 +1,16 @@
 -- `picture::put_words` meets its contract. Assumes nothing.
 use mathlib.Core.Path.{ap}
 use lib.ListN.{take}
-use borrow.Author.Needs.{needs}
 use Rattle.picture.specs.Numbers.{spaced}
 use Rattle.picture.proofs.Laws.{wrote-as, told-words}
 use Rattle.picture.proofs.put_words.Statement.{statement}
 use Rattle.picture.proofs.put_words.Tie as tie
 
 walk-words-requires : tie.Need-walk-words-requires
-walk-words-requires c κs = search needs
+walk-words-requires c κs = tt
 
 same-length : tie.Need-same-length
-same-length c = search needs
+same-length c = c .before .before .walk-words .ensures .0 .size
 
 returns : tie.Need-returns
 returns c = wrote-as (ap spaced (told-words 0 (take (c .before .before .before .before .before .before .args .count) (c .before .before .before .before .before .before .args .list .now)))) (c .before .before .walk-words .ensures .0)

@@ -1,5 +1,5 @@
 -- `picture::put_words_past` meets its contract. Assumes nothing.
-use mathlib.Core.Path.{ap}
+use mathlib.Core.Path.{_∙_, ap}
 use mathlib.Core.List.{[], _∷_}
 use native.Mathlib.Omega.{arith}
 use lib.ListN.{length, take, drop}
@@ -15,22 +15,22 @@ slice-aggregate-walk-words : tie.Need-slice-aggregate-walk-words
 slice-aggregate-walk-words c = search needs
 
 walk-words-requires : tie.Need-walk-words-requires
-walk-words-requires c κs = search needs
+walk-words-requires c κs = tt
 
 put-requires : tie.Need-put-requires
-put-requires c κs = search needs
+put-requires c κs = tt
 
 same-length : tie.Need-same-length
-same-length c = search needs
+same-length c = c .before .before .before .before .put .ensures .size
 
 returns : tie.Need-returns
 returns c = wrote-as (ap spaced (past-none wordNumbers (c .before .before .before .before .before .before .before .before .before .before .before .args .list .now) (c .before .before .before .before .before .before .before .before .before .before .before .args .length) (length (c .before .before .before .before .before .before .before .before .before .before .before .args .list .now)) (c .before .before .before .before .before .before .before .walk-words .result .held) (omega arith) (c .before .before .before .before .before .before .before .walk-words .ensures .1) (c .if1 .taken))) (c .before .before .before .before .put .ensures)
 
 walk-words-requires-2 : tie.Need-walk-words-requires-2
-walk-words-requires-2 c κs = search needs
+walk-words-requires-2 c κs = tt
 
 same-length-2 : tie.Need-same-length-2
-same-length-2 c = search needs
+same-length-2 c = c .before .before .walk-words2 .ensures .0 .size ∙ c .before .before .before .before .before .before .before .before .put .ensures .size
 
 returns-2 : tie.Need-returns-2
 returns-2 c = wrote-as (ap spaced (past-some wordNumbers (c .before .before .before .before .before .before .before .before .before .before .before .before .before .before .before .args .list .now) (c .before .before .before .before .before .before .before .before .before .before .before .before .before .before .before .args .length) (length (c .before .before .before .before .before .before .before .before .before .before .before .before .before .before .before .args .list .now)) (c .before .before .before .before .before .before .before .before .before .before .before .walk-words .result .held) (omega arith) (c .before .before .before .before .before .before .before .before .before .before .before .walk-words .ensures .1))) (numbers-joined (c .before .before .before .before .before .before .before .before .before .before .before .walk-words .result .held ∷ []) (told wordNumbers false (c .before .before .before .before .before .before .before .before .before .before .before .before .before .before .before .args .length) (take (length (c .before .before .before .before .before .before .before .before .before .before .before .before .before .before .before .args .list .now)) (drop (c .before .before .before .before .before .before .before .before .before .before .before .before .before .before .before .args .length) (c .before .before .before .before .before .before .before .before .before .before .before .before .before .before .before .args .list .now)))) (c .before .before .before .before .before .before .before .before .put .ensures) (c .before .before .walk-words2 .ensures .0))

@@ -1,6 +1,6 @@
 -- `trace::pin_words` meets its contract. The invariant: so many pins stand in front of zeros. Assumes nothing.
-use Prim.Native.Nat.{_+_, _≤_}
-use mathlib.Core.Path.{_≡_, refl, sym, _∙_, ap}
+use Prim.Native.Nat.{_+_}
+use mathlib.Core.Path.{_≡_, refl, _∙_, ap}
 use native.Mathlib.Omega.{arith}
 use lib.ListN.{length, set}
 use borrow.Author.Needs.{needs}
