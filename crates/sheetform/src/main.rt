@@ -1,24 +1,23 @@
 // Turns the text form of a run sheet into records, and records into text: standard input to standard output. Its argument is what it
-// writes, `records` or `text`. What is wrong with the input it says on standard output, behind what is written so far, and on standard
-// error, and ends. A sheet that ends so is no good sheet: no record begins with an `l`. What a line says, and the line of a record, are crate
-// `sheettext`'s; here are the lines of a block, and the blocks of the input.
+// writes, `records` or `text`. What is wrong with the input, a read or a write that fails, and how the program is used it says on standard
+// error, and ends; what it wrote before stays. What a line says is crate `sheettext`'s, the line of a record `sheetshow`'s; here are the
+// lines of a block, and the blocks of the input.
 ghost use mathlib.Core.Path.{_≡_};
 ghost use mathlib.Core.List.{_++_};
 ghost use Prim.Native.Nat.{_+_, _/_, _≤_};
 ghost use lib.ListN.{length, take};
-ghost use Rattle.sheettext.specs.Form.{listedText, textOf};
+ghost use Rattle.sheetshow.specs.Form.{listedText, textOf};
 use check::same;
 use libc::STDERR_FILENO;
-use libc::STDIN_FILENO;
-use libc::STDOUT_FILENO;
 use lines::Read;
+use sheetshow::Text;
+use sheettext::Fault;
 use sheettext::Parsed;
-use sheettext::Text;
 
 // What can be wrong with a line, besides what the line says.
-const LONG: u8 = 5;
+const LONG: u8 = 8;
 
-const NO_ROOM: u8 = 6;
+const NO_ROOM: u8 = 9;
 
 // The most bytes of a line that is read, without its end.
 const LINE: usize = 256;
@@ -30,11 +29,11 @@ struct Reading {
     before: u64,
 }
 
-// What a block came to: the line that has begun, the bytes written, and what is wrong with that line, or 0.
+// What a block came to: the line that has begun, the bytes written, and what is wrong with that line; why is 0 where nothing is.
 struct Turned {
     reading: Reading,
     written: usize,
-    wrong: u8,
+    fault: Fault,
 }
 
 // What a block of records came to: the bytes written, the records before the first bad one, and whether there is a bad one.
@@ -44,10 +43,19 @@ struct Listed {
     bad: bool,
 }
 
-// What a line of text adds to the records written: their bytes in all, and what is wrong with the line, or 0.
+// What a line of text adds to the records written: their bytes in all, and what is wrong with the line.
 struct Added {
     written: usize,
-    wrong: u8,
+    fault: Fault,
+}
+
+// A fault of no word.
+fn whole(why: u8) -> Fault {
+    Fault {
+        why: why,
+        from: 0,
+        to: 0,
+    }
 }
 
 // Some bytes in a list from a place on, and the place behind them.
@@ -75,23 +83,23 @@ fn add_line(line: &[u8], out: &mut [u8], at: usize) -> Added
             if out.len() - at < 24 {
                 return Added {
                     written: at,
-                    wrong: NO_ROOM,
+                    fault: whole(NO_ROOM),
                 };
             }
-            let bytes = sheettext::write_record(call);
+            let bytes = sheetshow::write_record(call);
             let written = store(&bytes, out, at);
             Added {
                 written: written,
-                wrong: 0,
+                fault: whole(0),
             }
         }
         Parsed::Nothing => Added {
             written: at,
-            wrong: 0,
+            fault: whole(0),
         },
-        Parsed::Wrong(why) => Added {
+        Parsed::Wrong(fault) => Added {
             written: at,
-            wrong: why,
+            fault: fault,
         },
     }
 }
@@ -105,23 +113,30 @@ fn take_byte(reading: Reading, byte: u8, out: &mut [u8], at: usize) -> Turned
     let mut line = reading.line;
     let len = reading.len;
     if LINE < len {
-        return outcome(line, len, reading.before, at, LONG);
+        return outcome(line, len, reading.before, at, whole(LONG));
     }
     if byte == b'\n' {
         let added = add_line(&line[..len], out, at);
-        if 0 < added.wrong {
-            return outcome(line, len, reading.before, added.written, added.wrong);
+        let fault = added.fault;
+        if 0 < fault.why {
+            return outcome(line, len, reading.before, added.written, fault);
         }
-        return outcome(line, 0, basics::one_more(reading.before), added.written, 0);
+        return outcome(
+            line,
+            0,
+            basics::one_more(reading.before),
+            added.written,
+            fault,
+        );
     }
     if len == LINE {
-        return outcome(line, len, reading.before, at, LONG);
+        return outcome(line, len, reading.before, at, whole(LONG));
     }
     line[len] = byte;
-    outcome(line, len + 1, reading.before, at, 0)
+    outcome(line, len + 1, reading.before, at, whole(0))
 }
 
-fn outcome(line: [u8; 256], len: usize, before: u64, written: usize, wrong: u8) -> Turned
+fn outcome(line: [u8; 256], len: usize, before: u64, written: usize, fault: Fault) -> Turned
     ensures { λ r. ⌜ r .written ≡ written ⌝ }
 {
     let reading = Reading {
@@ -132,7 +147,7 @@ fn outcome(line: [u8; 256], len: usize, before: u64, written: usize, wrong: u8) 
     Turned {
         reading: reading,
         written: written,
-        wrong: wrong,
+        fault: fault,
     }
 }
 
@@ -146,7 +161,7 @@ fn records_of(reading: Reading, text: &[u8], out: &mut [u8]) -> Turned
     let mut i: usize = 0;
     while i < text.len() {
         let next = take_byte(so_far, text[i], out, written);
-        if 0 < next.wrong {
+        if 0 < next.fault.why {
             return next;
         }
         so_far = next.reading;
@@ -156,13 +171,13 @@ fn records_of(reading: Reading, text: &[u8], out: &mut [u8]) -> Turned
     Turned {
         reading: so_far,
         written: written,
-        wrong: 0,
+        fault: whole(0),
     }
 }
 
 // A text in a list from a place on.
 fn store_text(text: Text, out: &mut [u8], at: usize) -> usize
-    requires { ⌜ (text .len ≤ 192) × (at + text .len ≤ length (now out)) ⌝ }
+    requires { ⌜ (text .len ≤ 200) × (at + text .len ≤ length (now out)) ⌝ }
     ensures { λ r. ⌜ take r (now (out .exit)) ≡ take at (now (out .entry)) ++ textOf text ⌝ }
     ensures { λ r. ⌜ r ≡ at + text .len ⌝ }
     ensures { λ r. ⌜ length (now (out .exit)) ≡ length (now (out .entry)) ⌝ }
@@ -174,14 +189,14 @@ fn store_text(text: Text, out: &mut [u8], at: usize) -> usize
 
 // The text of a block of records, up to the first that is bad: as many as have room.
 fn text_of(bytes: &[u8], out: &mut [u8]) -> Listed
-    ensures { λ r. ⌜ take (r .written) (now (out .exit)) ≡ listedText (length (now (out .entry)) / 192) (now (bytes .entry)) ⌝ }
+    ensures { λ r. ⌜ take (r .written) (now (out .exit)) ≡ listedText (length (now (out .entry)) / 200) (now (bytes .entry)) ⌝ }
     ensures { λ r. ⌜ r .written ≤ length (now (out .exit)) ⌝ }
     ensures { λ r. ⌜ length (now (out .exit)) ≡ length (now (out .entry)) ⌝ }
 {
     let mut written: usize = 0;
     let mut records: usize = 0;
     let mut at: usize = 0;
-    let mut left = out.len() / sheettext::ROOM;
+    let mut left = out.len() / sheetshow::ROOM;
     while 0 < left {
         if bytes.len() <= at {
             return Listed {
@@ -197,7 +212,7 @@ fn text_of(bytes: &[u8], out: &mut [u8]) -> Listed
                 bad: true,
             };
         };
-        written = store_text(sheettext::show_record(call), out, written);
+        written = store_text(sheetshow::show_record(call), out, written);
         records += 1;
         at += lines::RECORD;
         left -= 1;
@@ -209,33 +224,58 @@ fn text_of(bytes: &[u8], out: &mut [u8]) -> Listed
     }
 }
 
+// To standard error, never into what is written.
 fn say(text: &[u8]) {
-    io::write_all(STDOUT_FILENO, text);
     io::write_all(STDERR_FILENO, text);
 }
 
 fn say_number(number: u64) {
-    io::print_decimal(STDOUT_FILENO, number);
     io::print_decimal(STDERR_FILENO, number);
 }
 
-// The line with its number from 1, and what is wrong with it.
-fn say_wrong(before: u64, wrong: u8) {
-    say(b"line ");
-    say_number(basics::one_more(before));
-    if wrong == sheettext::NO_CALL {
-        say(b": no such call\n");
-    } else if wrong == sheettext::NO_FIELD {
-        say(b": no such field\n");
-    } else if wrong == sheettext::NO_NUMBER {
-        say(b": a field has no number\n");
-    } else if wrong == sheettext::RANGE {
-        say(b": a number is out of range\n");
-    } else if wrong == LONG {
-        say(b": longer than 256 bytes\n");
+fn say_why(why: u8) {
+    if why == sheettext::NO_CALL {
+        say(b": no such call");
+    } else if why == sheettext::NO_FIELD {
+        say(b": no such field");
+    } else if why == sheettext::NO_NUMBER {
+        say(b": not a number");
+    } else if why == sheettext::RANGE {
+        say(b": number out of range");
+    } else if why == sheettext::UNUSED {
+        say(b": not used by this call");
+    } else if why == sheettext::TWICE {
+        say(b": given twice");
+    } else if why == sheettext::MISSING {
+        say(b": number missing");
+    } else if why == LONG {
+        say(b": longer than 256 bytes");
     } else {
-        say(b": no room for its record\n");
+        say(b": no room for its record");
     }
+}
+
+// The word that is wrong; nothing where there is none.
+fn say_word(line: &[u8], from: usize, to: usize) {
+    if to <= from {
+        return;
+    }
+    if line.len() < to {
+        return;
+    }
+    say(b": \"");
+    say(&line[from..to]);
+    say(b"\"");
+}
+
+// The line with its number from 1, and what is wrong with it.
+fn say_wrong(reading: Reading, fault: Fault) {
+    let line = reading.line;
+    say(b"line ");
+    say_number(basics::one_more(reading.before));
+    say_why(fault.why);
+    say_word(&line, fault.from, fault.to);
+    say(b"\n");
 }
 
 // What a block of text came to: the line that has begun, and whether another block follows.
@@ -255,10 +295,16 @@ fn write_some(reading: Reading, text: &[u8]) -> Block {
     let mut out: [u8; 98304] = [0; 98304];
     let turned = records_of(reading, text, &mut out);
     let written = turned.written;
-    io::write_all(STDOUT_FILENO, &out[..written]);
     let begun = turned.reading;
-    if 0 < turned.wrong {
-        say_wrong(begun.before, turned.wrong);
+    let fault = turned.fault;
+    if !streams::write_out(&out[..written]) {
+        return Block {
+            reading: begun,
+            next: false,
+        };
+    }
+    if 0 < fault.why {
+        say_wrong(begun, fault);
         return Block {
             reading: begun,
             next: false,
@@ -270,18 +316,25 @@ fn write_some(reading: Reading, text: &[u8]) -> Block {
     }
 }
 
-// A block of text. The end of the input ends its last line.
+// A block of text. The end of the input ends its last line; a failed read ends the run.
 fn text_block(reading: Reading) -> Block {
     let mut bytes = io::buffer();
-    let got = io::read_full(STDIN_FILENO, &mut bytes);
-    if got == 0 {
+    let got = streams::read_block(&mut bytes);
+    let count = got.count;
+    if got.failed {
+        return Block {
+            reading: reading,
+            next: false,
+        };
+    }
+    if count == 0 {
         write_some(reading, b"\n");
         return Block {
             reading: reading,
             next: false,
         };
     }
-    write_some(reading, &bytes[..got])
+    write_some(reading, &bytes[..count])
 }
 
 fn write_records() {
@@ -304,23 +357,30 @@ fn write_records() {
 // A block of 128 records has room for the text of each.
 fn record_block(number: u64) -> Numbered {
     let mut bytes: [u8; 3072] = [0; 3072];
-    let mut out: [u8; 24576] = [0; 24576];
-    let got = io::read_full(STDIN_FILENO, &mut bytes);
-    let listed = text_of(&bytes[..got], &mut out);
+    let mut out: [u8; 25600] = [0; 25600];
+    let got = streams::read_block(&mut bytes);
+    let count = got.count;
+    let ended = Numbered {
+        number: number,
+        next: false,
+    };
+    if got.failed {
+        return ended;
+    }
+    let listed = text_of(&bytes[..count], &mut out);
     let written = listed.written;
-    io::write_all(STDOUT_FILENO, &out[..written]);
+    if !streams::write_out(&out[..written]) {
+        return ended;
+    }
     if listed.bad {
         say(b"record ");
         say_number(std::num::wrapping_add_u64(number, listed.records as u64));
         say(b": bad\n");
-        return Numbered {
-            number: number,
-            next: false,
-        };
+        return ended;
     }
     Numbered {
         number: std::num::wrapping_add_u64(number, listed.records as u64),
-        next: 0 < got,
+        next: 0 < count,
     }
 }
 
@@ -337,8 +397,16 @@ fn write_text() {
     }
 }
 
+fn usage() {
+    say(b"usage: sheetform records < TEXT > SHEET, or sheetform text < SHEET > TEXT\n");
+}
+
 fn main() {
     let mut word: [u8; 8] = [0; 8];
+    if os::arg_count() != 2 {
+        usage();
+        return;
+    }
     let len = os::arg(1, &mut word);
     if same(&word[..len], b"records") {
         write_records();
@@ -348,5 +416,5 @@ fn main() {
         write_text();
         return;
     }
-    say(b"sheetform records < TEXT > SHEET, or sheetform text < SHEET > TEXT\n");
+    usage();
 }

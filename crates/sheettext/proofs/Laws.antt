@@ -1,69 +1,26 @@
--- Laws of the text form, each end of a rule on plain variables: the bytes of a record, bytes put behind a text, runs of blanks, numbers, words, the
--- words of a line, the lines of records.
+-- Laws of the text form, each end of a rule on plain variables: runs of blanks, numbers, words, the names of a list, values in their ranges, the words of
+-- a line.
 -- Assumes nothing.
-use Prim.Native.Nat.{ℕ, zero, suc, _+_, _-_, _*_, _/_, _%_, _≤_, _<_}
+use Prim.Native.Nat.{ℕ, zero, suc, _+_, _-_, _*_, _≤_, _<_}
 use native.Mathlib.Omega.{arith}
 use native.Mathlib.Numerals.{add-one}
-use mathlib.Core.Path.{_≡_, refl, sym, _∙_, ap}
+use mathlib.Core.Path.{_≡_, refl, sym, _∙_, ap, subst}
 use mathlib.Core.Bool.{Bool, true, false, _&&_}
-use mathlib.Core.List.{List, [], _∷_, _++_, append-assoc}
+use mathlib.Core.List.{List, [], _∷_}
 use lib.Dec.{eqb, ltb, leb}
-use lib.ListN.{length, take, drop, set, getD, drop-of-length-le, length-drop}
-use lib.Seq.{drop-cons, take-suc, take-suc-set, take-all, take-length, drop-drop}
-use borrow.Author.Tests.{lt-ltb, le-ltb, le-leb, lt-leb, eq-eqb, ne-eqb, eqb-true}
+use lib.ListN.{length, take, drop, set, getD, drop-of-length-le}
+use lib.Seq.{drop-cons, take-length, drop-drop, getD-set-same, getD-set-other}
+use borrow.Author.Tests.{lt-ltb, le-ltb, le-leb, eq-eqb, ne-eqb, eqb-true, eqb-false, ltb-true, leb-true}
 use Rattle.basics.specs.Try.{ok, refuse, if_then_else_}
 use Rattle.basics.proofs.Tests.{Is, is, yes!, no!, false-true, and-left, and-right}
 use Rattle.bytes.specs.Bytes.{indexOf, slice}
-use Rattle.lines.specs.declared.Record.{Record}
-use Rattle.lines.specs.declared.Read.{Read}
-use Rattle.lines.specs.Record.{low, inRange, fieldsOf, readRecord}
-use Rattle.sheettext.specs.declared.Four.{Four}
+use Rattle.sheetshow.specs.Good.{good}
+use Rattle.sheetshow.proofs.Laws.{all-from}
 use Rattle.sheettext.specs.declared.Number.{Number}
 use Rattle.sheettext.specs.declared.Parsed.{Parsed}
-use Rattle.sheettext.specs.Good.{good, bitOf, fourValue}
-use Rattle.sheettext.specs.Form.{shown, listedText}
-use Rattle.sheettext.specs.Parse.{countsAs, runOf, sameBytes, numberFrom, numberOf, numberTry, wordSize, word, behind, skip, called, withWord, withWords}
-
--- ---- the bytes of a record are read as the record
-bit-one : (b : Bool) → (leb (bitOf b) 1 ≡ true) × (eqb (bitOf b) 1 ≡ b)
-bit-one true = (refl, refl)
-bit-one false = (refl, refl)
-
-pub reads-back : (r : Record) (flag : ℕ) (n f g i j : Four) → r .place ≤ 15 → r .number ≤ 4294967295 → flag ≡ bitOf (r .allow)
-    → fourValue n ≡ r .number → fourValue f + 4294967296 * fourValue g ≡ r .key .file → fourValue i + 4294967296 * fourValue j ≡ r .key .index
-    → readRecord (r .code ∷ flag ∷ r .key .kind ∷ r .place ∷ n .a ∷ n .b ∷ n .c ∷ n .d ∷ f .a ∷ f .b ∷ f .c ∷ f .d ∷ g .a ∷ g .b ∷ g .c ∷ g .d ∷ i .a ∷ i .b ∷ i .c ∷ i .d ∷ j .a ∷ j .b ∷ j .c ∷ j .d ∷ [])
-    ≡ (if good r then Read.Whole r else Read.Bad)
-unfolding readRecord inRange fieldsOf good low
-reads-back r flag n f g i j place number flag-is n-is f-is i-is =
-    let n₁ : n .a + 256 * (n .b + 256 * (n .c + 256 * (n .d + 256 * 0))) ≡ r .number = omega arith in
-    let f₁ : f .a + 256 * (f .b + 256 * (f .c + 256 * (f .d + 256 * (g .a + 256 * (g .b + 256 * (g .c + 256 * (g .d + 256 * 0))))))) ≡ r .key .file = omega arith in
-    let i₁ : i .a + 256 * (i .b + 256 * (i .c + 256 * (i .d + 256 * (j .a + 256 * (j .b + 256 * (j .c + 256 * (j .d + 256 * 0))))))) ≡ r .key .index = omega arith in
-    rw (n₁, f₁, i₁, flag-is, bit-one (r .allow) .0, bit-one (r .allow) .1, le-leb _ _ place, le-leb _ _ number)
-
--- ---- a byte stored behind a text
-pub behind-at : (l : List ℕ) (i b : ℕ) → i < length l → take (i + 1) (set l i b) ≡ take i l ++ (b ∷ [])
-behind-at l i b h = rw add-one (take-suc-set l i b h)
-
-pub put-step : (bytes bytes₀ word : List ℕ) (len i : ℕ) → len + i < length bytes → i < length word → take (len + i) bytes ≡ take len bytes₀ ++ take i word
-    → take (len + (i + 1)) (set bytes (len + i) (getD word i 0)) ≡ take len bytes₀ ++ take (i + 1) word
-put-step bytes bytes₀ word len i h k e =
-    let s : len + (i + 1) ≡ len + i + 1 = omega arith in
-    rw (s, behind-at bytes (len + i) (getD word i 0) h, e, add-one i, take-suc word i 0 k) (append-assoc (take len bytes₀) (take i word) (getD word i 0 ∷ []))
-
--- all of a list from a place on
-pub all-from : (l : List ℕ) (from n : ℕ) → length l ≡ n → take (n - from) (drop from l) ≡ drop from l
-all-from l from n e = take-all (n - from) (drop from l) (simp length-drop (omega arith))
-
-pub part-length : (l : List ℕ) (from n : ℕ) → length l ≡ n → length (take (n - from) (drop from l)) ≡ n - from
-part-length l from n e = rw (all-from l from n e, length-drop, e)
-
--- the four low bytes of a number are the number below 2^32
-pub four-parts : (n : ℕ) → n % 256 + 256 * (n / 256 % 256 + 256 * (n / 65536 % 256 + 256 * (n / 16777216 % 256))) ≡ n % 4294967296
-four-parts n =
-    let p : n / 65536 ≡ n / 256 / 256 = omega arith in
-    let q : n / 16777216 ≡ n / 65536 / 256 = omega arith in
-    let s : n / 4294967296 ≡ n / 16777216 / 256 = omega arith in
-    omega arith
+use Rattle.sheettext.specs.declared.Begun.{Begun}
+use Rattle.sheettext.specs.declared.Span.{Span}
+use Rattle.sheettext.specs.Parse.{countsAs, runOf, sameBytes, placeIn, numberFrom, numberOf, numberTry, wordSize, word, behind, skip, least, most, callOf, begin, faulty, going, withWord, recordOf, finished, withWords, textSays, within, goodLine}
 
 -- where a byte is found in the whole list
 pub found-at : (b : ℕ) (l : List ℕ) (r : ℕ) → r ≡ 0 + indexOf b (slice 0 (length l) l) → r ≡ indexOf b l
@@ -71,30 +28,6 @@ unfolding slice
 found-at b l r e =
     let z : 0 + indexOf b l ≡ indexOf b l = omega arith in
     e ∙ ap (λ k. 0 + indexOf b k) (take-length l) ∙ z
-
--- ---- a call that a sheet holds, with another number or place
-pub good-number : (r : Record) (n : ℕ) → good r ≡ true → n ≤ 4294967295 → good (record { code = r .code; allow = r .allow; place = r .place; number = n; key = r .key }) ≡ true
-unfolding good
-good-number r n g h = rw (and-left (ltb 0 (r .code) && leb (r .code) 9 && leb (r .place) 15) (leb (r .number) 4294967295) g, le-leb _ _ h)
-
-pub good-place : (r : Record) (p : ℕ) → good r ≡ true → p ≤ 15 → good (record { code = r .code; allow = r .allow; place = p; number = r .number; key = r .key }) ≡ true
-unfolding good
-good-place r p g h =
-    let front = and-left (ltb 0 (r .code) && leb (r .code) 9 && leb (r .place) 15) (leb (r .number) 4294967295) g in
-    let behind = and-right (ltb 0 (r .code) && leb (r .code) 9 && leb (r .place) 15) (leb (r .number) 4294967295) g in
-    rw (and-left (ltb 0 (r .code) && leb (r .code) 9) (leb (r .place) 15) front, le-leb _ _ h, behind)
-
-and-no : (a : Bool) → a && false ≡ false
-and-no true = refl
-and-no false = refl
-
-pub far-place : (r : Record) → 15 < r .place → good r ≡ false
-unfolding good
-far-place r h = rw (lt-leb _ _ h, and-no (ltb 0 (r .code) && leb (r .code) 9))
-
-pub far-number : (r : Record) → 4294967295 < r .number → good r ≡ false
-unfolding good
-far-number r h = rw (lt-leb _ _ h, and-no (ltb 0 (r .code) && leb (r .code) 9 && leb (r .place) 15))
 
 -- ---- a run of bytes
 pub run-goes : (blank : Bool) (text : List ℕ) (i : ℕ) → i < length text → countsAs blank (getD text i 0) ≡ true → runOf blank (drop i text) ≡ runOf blank (drop (i + 1) text) + 1
@@ -178,57 +111,122 @@ module _ (l : List ℕ) (at from to : ℕ) (from-is : from ≡ at + runOf true (
   pub behind-is : behind (drop at l) ≡ drop to l
   behind-is = ap (λ k. drop (wordSize (drop at l)) k) (skip-is l at from from-is) ∙ drop-drop (wordSize (drop at l)) from l ∙ ap (λ k. drop k l) (sym to-is)
 
-  pub words-none : (left : ℕ) (r : Record) → 0 < left → from ≡ to → withWords left r (drop at l) ≡ Parsed.Call r
+  pub words-none : (left : ℕ) (b : Begun) (call : Span) → 0 < left → from ≡ to → withWords left b call at (drop at l) ≡ finished b call
   unfolding withWords
-  words-none zero r h e = absurd (omega arith)
-  words-none (suc left) r h e = rw (eq-eqb (wordSize (drop at l)) 0 (omega arith))
+  words-none zero b call h e = absurd (omega arith)
+  words-none (suc left) b call h e = rw (eq-eqb (wordSize (drop at l)) 0 (omega arith))
 
-  pub words-more : (left : ℕ) (r : Record) → 0 < left → (from ≡ to → ⊥)
-      → withWords left r (drop at l) ≡ called (withWord r (take (to - from) (drop from l))) (λ s. withWords (left - 1) s (drop to l))
+  pub words-more : (left : ℕ) (b : Begun) (call : Span) → 0 < left → (from ≡ to → ⊥)
+      → withWords left b call at (drop at l) ≡ going (withWord b (take (to - from) (drop from l))) from to (λ next. withWords (left - 1) next call to (drop to l))
   unfolding withWords
-  words-more zero r h n = absurd (omega arith)
-  words-more (suc left) r h n =
+  words-more zero b call h n = absurd (omega arith)
+  words-more (suc left) b call h n =
       let p : suc left - 1 ≡ left = omega arith in
-      rw (ne-eqb (wordSize (drop at l)) 0 (λ z. n (omega arith)), word-is, behind-is, p)
+      rw (ne-eqb (wordSize (drop at l)) 0 (λ z. n (omega arith)), word-is, behind-is, ← from-is, ← to-is, p)
 
-pub words-end : (left : ℕ) (r : Record) (text : List ℕ) → left ≤ 0 → withWords left r text ≡ Parsed.Call r
+  module _ (left : ℕ) (b : Begun) (call : Span) (next : Begun) (some : 0 < left) (n : from ≡ to → ⊥) (next-is : next ≡ withWord b (take (to - from) (drop from l))) where
+    pub words-wrong : 0 < next .wrong → withWords left b call at (drop at l) ≡ faulty (next .wrong) from to
+    words-wrong h = rw (words-more left b call some n, sym next-is, lt-ltb 0 (next .wrong) h)
+
+    pub words-goes : next .wrong ≤ 0 → withWords left b call at (drop at l) ≡ withWords (left - 1) next call to (drop to l)
+    words-goes h = rw (words-more left b call some n, sym next-is, le-ltb 0 (next .wrong) h)
+
+  -- a list of names
+  pub names-none : (left : ℕ) (w : List ℕ) → 0 < left → from ≡ to → placeIn left (drop at l) w ≡ 0
+  unfolding placeIn
+  names-none zero w h e = absurd (omega arith)
+  names-none (suc left) w h e = rw (eq-eqb (wordSize (drop at l)) 0 (omega arith))
+
+  pub names-here : (left : ℕ) (w : List ℕ) → 0 < left → (from ≡ to → ⊥) → sameBytes w (take (to - from) (drop from l)) ≡ true → placeIn left (drop at l) w ≡ 0
+  unfolding placeIn
+  names-here zero w h n e = absurd (omega arith)
+  names-here (suc left) w h n e = rw (ne-eqb (wordSize (drop at l)) 0 (λ z. n (omega arith)), word-is, e)
+
+  pub names-more : (left : ℕ) (w : List ℕ) → 0 < left → (from ≡ to → ⊥) → sameBytes w (take (to - from) (drop from l)) ≡ false
+      → placeIn left (drop at l) w ≡ placeIn (left - 1) (drop to l) w + 1
+  unfolding placeIn
+  names-more zero w h n e = absurd (omega arith)
+  names-more (suc left) w h n e =
+      let p : suc left - 1 ≡ left = omega arith in
+      rw (ne-eqb (wordSize (drop at l)) 0 (λ z. n (omega arith)), word-is, e, behind-is, p) (sym (add-one (placeIn left (drop to l) w)))
+
+-- the first word of a line is no call, or it is one
+module _ (l : List ℕ) (from to call : ℕ) (from-is : from ≡ 0 + runOf true l) (to-is : to ≡ from + wordSize l) (n : from ≡ to → ⊥) (call-is : call ≡ callOf (take (to - from) (drop from l))) where
+  called : callOf (word l) ≡ call
+  called = ap callOf (word-is l 0 from to from-is to-is) ∙ sym call-is
+
+  pub text-no-call : 10 < call → textSays l ≡ faulty 1 from to
+  unfolding textSays
+  text-no-call h =
+      rw (ne-eqb (wordSize l) 0 (λ z. n (omega arith)), called, lt-ltb 10 call h)
+      (ap (λ k. faulty 1 k (k + wordSize l)) (sym from-is) ∙ ap (λ k. faulty 1 from k) (sym to-is))
+
+  pub text-call : call ≤ 10 → textSays l ≡ withWords (length l) (begin call) (record { from = from; to = to }) to (drop to l)
+  unfolding textSays
+  text-call h =
+      rw (ne-eqb (wordSize l) 0 (λ z. n (omega arith)), called, le-ltb 10 call h)
+      (ap (λ k. withWords (length l) (begin call) (record { from = k; to = k + wordSize l }) (k + wordSize l) (behind l)) (sym from-is)
+      ∙ ap (λ k. withWords (length l) (begin call) (record { from = from; to = k }) k (behind l)) (sym to-is)
+      ∙ ap (λ k. withWords (length l) (begin call) (record { from = from; to = to }) to k) (behind-is l 0 from to from-is to-is))
+
+pub words-end : (left : ℕ) (b : Begun) (call : Span) (at : ℕ) (text : List ℕ) → left ≤ 0 → withWords left b call at text ≡ finished b call
 unfolding withWords
-words-end zero r text h = refl
-words-end (suc left) r text h = absurd (omega arith)
+words-end zero b call at text h = refl
+words-end (suc left) b call at text h = absurd (omega arith)
 
--- a call of a word of the list
-pub good-call : (r : Record) → (r .code ≡ 0 → ⊥) → r .code ≤ 9 → r .place ≡ 0 → r .number ≡ 0 → good r ≡ true
-unfolding good
-good-call r n h p m = rw (lt-ltb 0 (r .code) (nonzero (r .code) n), le-leb _ _ h, p, m)
-  where
-    nonzero : (k : ℕ) → (k ≡ 0 → ⊥) → 0 < k
-    nonzero zero n = absurd (n refl)
-    nonzero (suc k) n = omega arith
+pub names-end : (left : ℕ) (names w : List ℕ) → left ≤ 0 → placeIn left names w ≡ 0
+unfolding placeIn
+names-end zero names w h = refl
+names-end (suc left) names w h = absurd (omega arith)
 
--- ---- the lines of records, one at a time
-module _ (bytes : List ℕ) (at : ℕ) where
-  pub listed-end : (left : ℕ) → left ≤ 0 → listedText left (drop at bytes) ≡ []
-  unfolding listedText
-  listed-end zero h = refl
-  listed-end (suc left) h = absurd (omega arith)
+-- ---- values in their ranges
+-- a test of a value holds after another was stored, or this one
+stored : (test : ℕ → Bool) (l : List ℕ) (field v k : ℕ) → field < length l → (field ≡ k → test v ≡ true) → test (getD l k 0) ≡ true → test (getD (set l field v) k 0) ≡ true
+stored test l field v k h new old = elim (is (eqb k field)) [
+  | yes! e ↦ let s = eqb-true k field e in ap (λ i. test (getD (set l field v) i 0)) s ∙ ap test (getD-set-same l field v 0 h) ∙ new (sym s)
+  | no! e ↦ ap test (getD-set-other l field k v 0 (eqb-false k field e)) ∙ old
+]
 
-  pub listed-none : (left : ℕ) → length bytes ≤ at → listedText left (drop at bytes) ≡ []
-  unfolding listedText
-  listed-none zero h = refl
-  listed-none (suc left) h = rw (drop-of-length-le bytes h)
+-- the parts of the test
+pub within-parts : (l : List ℕ) → within l ≡ true → (0 < getD l 0 0) × (getD l 0 0 ≤ 9) × (getD l 2 0 ≤ 255) × (getD l 3 0 ≤ 15) × (getD l 4 0 ≤ 4294967295)
+unfolding within
+within-parts l w =
+    let a = ltb 0 (getD l 0 0) in
+    let b = leb (getD l 0 0) 9 in
+    let c = leb (getD l 2 0) 255 in
+    let d = leb (getD l 3 0) 15 in
+    let e = leb (getD l 4 0) 4294967295 in
+    let w₁ = and-left (a && b && c && d) e w in
+    let w₂ = and-left (a && b && c) d w₁ in
+    let w₃ = and-left (a && b) c w₂ in
+    (ltb-true _ _ (and-left a b w₃), leb-true _ _ (and-right a b w₃), leb-true _ _ (and-right (a && b) c w₂), leb-true _ _ (and-right (a && b && c) d w₁), leb-true _ _ (and-right (a && b && c && d) e w))
 
-  pub listed-bad : (left : ℕ) → 0 < left → at < length bytes → readRecord (drop at bytes) ≡ Read.Bad → listedText left (drop at bytes) ≡ []
-  unfolding listedText
-  listed-bad zero p h e = absurd (omega arith)
-  listed-bad (suc left) p h e =
-      let some : length (drop at bytes) ≡ 0 → ⊥ = λ z. omega (arith, length-drop at bytes) in
-      rw (ne-eqb (length (drop at bytes)) 0 some, e)
+-- a value is stored in the range of its field
+pub within-set : (l : List ℕ) (field v : ℕ) → length l ≡ 7 → field ≤ 6 → least field ≤ v → v ≤ most field → within l ≡ true → within (set l field v) ≡ true
+unfolding within least most
+within-set l field v e h low high w =
+    let p = within-parts l w in
+    let inside : field < length l = omega arith in
+    let ups : (k m : ℕ) → most k ≡ m → field ≡ k → v ≤ m = λ k m q f. subst (λ x. v ≤ x) (ap most f ∙ q) high in
+    rw (
+      stored (λ x. ltb 0 x) l field v 0 inside (λ f. lt-ltb 0 v (subst (λ x. least x ≤ v) f low)) (lt-ltb _ _ (p .0)),
+      stored (λ x. leb x 9) l field v 0 inside (λ f. le-leb v 9 (ups 0 9 refl f)) (le-leb _ _ (p .1)),
+      stored (λ x. leb x 255) l field v 2 inside (λ f. le-leb v 255 (ups 2 255 refl f)) (le-leb _ _ (p .2)),
+      stored (λ x. leb x 15) l field v 3 inside (λ f. le-leb v 15 (ups 3 15 refl f)) (le-leb _ _ (p .3)),
+      stored (λ x. leb x 4294967295) l field v 4 inside (λ f. le-leb v 4294967295 (ups 4 4294967295 refl f)) (le-leb _ _ (p .4)),
+    )
 
-  pub listed-more : (left : ℕ) (r : Record) → 0 < left → at < length bytes → readRecord (drop at bytes) ≡ Read.Whole r
-      → listedText left (drop at bytes) ≡ shown r ++ listedText (left - 1) (drop (at + 24) bytes)
-  unfolding listedText
-  listed-more zero r p h e = absurd (omega arith)
-  listed-more (suc left) r p h e =
-      let some : length (drop at bytes) ≡ 0 → ⊥ = λ z. omega (arith, length-drop at bytes) in
-      let q : suc left - 1 ≡ left = omega arith in
-      rw (ne-eqb (length (drop at bytes)) 0 some, e, q, drop-drop 24 at bytes)
+pub good-values : (l : List ℕ) → within l ≡ true → good (recordOf l) ≡ true
+unfolding good recordOf
+good-values l w =
+    let p = within-parts l w in
+    rw (lt-ltb _ _ (p .0), le-leb _ _ (p .1), le-leb _ _ (p .3), le-leb _ _ (p .4))
+
+-- a word that stands in a line stands in a longer one
+pub good-longer : (p : Parsed) (n m : ℕ) → n ≤ m → goodLine n p ≡ true → goodLine m p ≡ true
+good-longer (Parsed.Call r) n m h e = e
+good-longer Parsed.Nothing n m h e = refl
+good-longer (Parsed.Wrong fault) n m h e =
+    let a = and-left (leb (fault .from) (fault .to)) (leb (fault .to) n) e in
+    let b = leb-true (fault .to) n (and-right (leb (fault .from) (fault .to)) (leb (fault .to) n) e) in
+    rw (a, le-leb (fault .to) m (omega arith))

@@ -1,15 +1,18 @@
--- The line of a record says the record again: each call, with fields at and off what is usual. Assumes nothing.
+-- The line of a record says the record again: each call, with fields at and off what is usual, used and unused. Lines that are wrong, each with the word
+-- that is wrong. Assumes nothing.
 use Prim.Native.Nat.{ℕ, _-_}
 use mathlib.Core.Path.{_≡_, refl}
 use mathlib.Core.Bool.{Bool, true, false}
 use mathlib.Core.List.{List, [], _∷_, map}
+use Prim.Native.String.{String}
 use lib.ListN.{length, take}
 use Rattle.bytes.specs.Bytes.{indexOf, indexAfter}
 use Rattle.lines.specs.declared.Record.{Record}
 use Rattle.lines.specs.Text.{bytesOf, digitsFrom, decimal}
+use Rattle.sheetshow.specs.Uses.{usesKey, usesPlace, usesAllow, usesNumber, uses, fits, isCode, onlyUsed}
+use Rattle.sheetshow.specs.Form.{fieldText, wordText, callText, recordText, headText, usualAllow, shown}
 use Rattle.sheettext.specs.declared.Parsed.{Parsed}
-use Rattle.sheettext.specs.Form.{fieldText, wordText, callText, usualAllow, shown}
-use Rattle.sheettext.specs.Parse.{isBlank, countsAs, runOf, sameBytes, numberFrom, numberOf, callOf, withNumber, withField, withWord, withWords, textSays, lineSays}
+use Rattle.sheettext.specs.Parse.{isBlank, countsAs, runOf, sameBytes, placeIn, numberFrom, numberOf, fieldOf, least, most, plainCall, callOf, begin, withValue, withWord, recordOf, faulty, finished, withWords, textSays, lineSays}
 
 unfoldable pub call : ℕ → Bool → ℕ → ℕ → ℕ → ℕ → ℕ → Record
 call code allow kind place number file index = record { code = code; allow = allow; place = place; number = number; key = record { file = file; kind = kind; index = index } }
@@ -36,5 +39,37 @@ unfoldable pub lineOf : Record → List ℕ
 lineOf r = take (length (shown r) - 1) (shown r)
 
 pub said-again : map (λ r. lineSays (lineOf r)) samples ≡ map (λ r. Parsed.Call r) samples
-unfolding call samples lineOf indexOf indexAfter bytesOf digitsFrom decimal fieldText wordText callText usualAllow shown isBlank countsAs runOf sameBytes numberFrom numberOf callOf withNumber withField withWord withWords textSays lineSays
+unfolding call samples lineOf indexOf indexAfter bytesOf digitsFrom decimal usesKey usesPlace usesAllow usesNumber uses fits isCode onlyUsed fieldText wordText callText recordText headText usualAllow shown isBlank countsAs runOf sameBytes placeIn numberFrom numberOf fieldOf least most plainCall callOf begin withValue withWord recordOf finished withWords textSays lineSays
 said-again = refl
+
+-- lines that are wrong
+unfoldable pub wrongLines : List String
+wrongLines =
+    "make 4"
+    ∷ "publish plase=2"
+    ∷ "new x"
+    ∷ "pin slot="
+    ∷ "publish place=16"
+    ∷ "new 4294967296"
+    ∷ "publish 2"
+    ∷ "unpin 3 allow=1"
+    ∷ "new 4 5"
+    ∷ "  remove # 2"
+    ∷ "record file=3"
+    ∷ []
+
+pub told : map (λ w. lineSays (bytesOf w)) wrongLines
+    ≡ faulty 1 0 4
+    ∷ faulty 2 8 15
+    ∷ faulty 3 4 5
+    ∷ faulty 3 4 9
+    ∷ faulty 4 8 16
+    ∷ faulty 4 4 14
+    ∷ faulty 5 8 9
+    ∷ faulty 5 8 15
+    ∷ faulty 6 6 7
+    ∷ faulty 7 2 8
+    ∷ faulty 7 0 6
+    ∷ []
+unfolding wrongLines indexOf indexAfter bytesOf usesKey usesPlace usesAllow usesNumber uses isBlank countsAs runOf sameBytes placeIn numberFrom numberOf fieldOf least most plainCall callOf begin withValue withWord recordOf finished withWords textSays lineSays
+told = refl

@@ -1,3 +1,1 @@
-pub mod Good
-pub mod Form
 pub mod Parse

@@ -37,6 +37,9 @@ loop-less c = search needs
 loop-again : tie.Need-loop-again Inv-loop μ-loop
 loop-again c = (c .before .before .before .before .before .take-byte .ensures .1 ∙ c .before .before .before .before .before .before .before .before .before .loop .inv .0, omega (arith, c .before .before .before .before .before .take-byte .ensures .0, c .before .before .before .before .before .take-byte .ensures .1), omega arith)
 
+whole-requires : tie.Need-whole-requires Inv-loop μ-loop
+whole-requires c κs = search needs
+
 same-length-2 : tie.Need-same-length-2 Inv-loop μ-loop
 same-length-2 c = search needs
 
@@ -57,5 +60,6 @@ records-of-spec =
     add-i
     loop-less
     loop-again
+    whole-requires
     same-length-2
     returns-2)

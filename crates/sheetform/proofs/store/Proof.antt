@@ -6,7 +6,7 @@ use mathlib.Core.Path.{_≡_, refl, sym, ap, _∙_}
 use mathlib.Core.List.{_++_, append-nil}
 use lib.ListN.{length, take, length-set}
 use lib.Seq.{take-length}
-use Rattle.sheettext.proofs.Laws.{put-step}
+use Rattle.sheetshow.proofs.Laws.{put-step}
 use Rattle.sheetform.proofs.store.Statement.{statement}
 use Rattle.sheetform.proofs.store.Tie as tie
 

@@ -7,6 +7,9 @@ use borrow.Author.Needs.{needs}
 use Rattle.sheetform.proofs.take_byte.Statement.{statement}
 use Rattle.sheetform.proofs.take_byte.Tie as tie
 
+whole-requires : tie.Need-whole-requires
+whole-requires c κs = search needs
+
 outcome-requires : tie.Need-outcome-requires
 outcome-requires c κs = search needs
 
@@ -43,6 +46,9 @@ same-length-2 c = search needs
 returns-3 : tie.Need-returns-3
 returns-3 c = search needs
 
+whole-requires-2 : tie.Need-whole-requires-2
+whole-requires-2 c κs = search needs
+
 outcome-requires-4 : tie.Need-outcome-requires-4
 outcome-requires-4 c κs = search needs
 
@@ -55,6 +61,9 @@ array-write-line c = search needs
 add-outcome : tie.Need-add-outcome
 add-outcome c = search needs
 
+whole-requires-3 : tie.Need-whole-requires-3
+whole-requires-3 c κs = search needs
+
 outcome-requires-5 : tie.Need-outcome-requires-5
 outcome-requires-5 c κs = search needs
 
@@ -65,6 +74,7 @@ pub take-byte-spec : {M : Type 1} → statement M
 take-byte-spec =
     tie.close
     (tie.spec
+    whole-requires
     outcome-requires
     returns
     array-share-prefix-line
@@ -77,9 +87,11 @@ take-byte-spec =
     outcome-requires-3
     same-length-2
     returns-3
+    whole-requires-2
     outcome-requires-4
     returns-4
     array-write-line
     add-outcome
+    whole-requires-3
     outcome-requires-5
     returns-5)

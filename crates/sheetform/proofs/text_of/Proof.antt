@@ -1,18 +1,18 @@
 -- `sheetform::text_of` meets its contract. The invariant: what is written, and the lines of the records that are left behind it, are the lines of all. Assumes nothing.
 use Prim.Native.Nat.{_-_, _+_, _*_, _/_, _≤_}
-use Rattle.sheettext.specs.Form.{shown, listedText}
+use Rattle.sheetshow.specs.Form.{shown, listedText}
 use native.Mathlib.Omega.{arith}
 use borrow.Author.Needs.{needs}
 use mathlib.Core.Path.{_≡_, refl, sym, _∙_, ap}
 use mathlib.Core.List.{_++_, append-assoc, append-nil}
 use lib.ListN.{length, take, drop}
 use Rattle.lines.specs.Record.{readRecord}
-use Rattle.sheettext.proofs.Laws.{all-from, listed-end, listed-none, listed-bad, listed-more}
+use Rattle.sheetshow.proofs.Laws.{all-from, listed-end, listed-none, listed-bad, listed-more}
 use Rattle.sheetform.proofs.text_of.Statement.{statement}
 use Rattle.sheetform.proofs.text_of.Tie as tie
 
 abbrev Inv-loop : tie.InvT-loop
-Inv-loop bytes out₀ written₀ records₀ at₀ left₀ out written records at left = (length out ≡ length out₀) × (written + 192 * left ≤ length out₀) × (at + 24 * left ≡ 24 * (length out₀ / 192)) × (records + left ≡ length out₀ / 192) × (take written out ++ listedText left (drop at bytes) ≡ listedText (length out₀ / 192) bytes)
+Inv-loop bytes out₀ written₀ records₀ at₀ left₀ out written records at left = (length out ≡ length out₀) × (written + 200 * left ≤ length out₀) × (at + 24 * left ≡ 24 * (length out₀ / 200)) × (records + left ≡ length out₀ / 200) × (take written out ++ listedText left (drop at bytes) ≡ listedText (length out₀ / 200) bytes)
 
 abbrev μ-loop : tie.MeasureT-loop
 μ-loop bytes out₀ written₀ records₀ at₀ left₀ out written records at left = left

@@ -14,20 +14,23 @@ records-of-requires c κs = search needs
 array-share-prefix-out : tie.Need-array-share-prefix-out
 array-share-prefix-out c = search needs
 
-slice-aggregate-write-all : tie.Need-slice-aggregate-write-all
-slice-aggregate-write-all c = sym (length-take-le (c .before .before .records-of .result .written) (c .before .before .records-of .last .1 .1 .0) (c .before .before .records-of .ensures .0))
+slice-aggregate-write-out : tie.Need-slice-aggregate-write-out
+slice-aggregate-write-out c = sym (length-take-le (c .before .before .before .before .records-of .result .written) (c .before .before .before .before .records-of .last .1 .1 .0) (c .before .before .before .before .records-of .ensures .0))
 
-write-all-requires : tie.Need-write-all-requires
-write-all-requires c κs = search needs
-
-say-wrong-requires : tie.Need-say-wrong-requires
-say-wrong-requires c κs = search needs
+write-out-requires : tie.Need-write-out-requires
+write-out-requires c κs = search needs
 
 returns : tie.Need-returns
 returns c = search needs
 
+say-wrong-requires : tie.Need-say-wrong-requires
+say-wrong-requires c κs = search needs
+
 returns-2 : tie.Need-returns-2
 returns-2 c = search needs
+
+returns-3 : tie.Need-returns-3
+returns-3 c = search needs
 
 pub write-some-spec : {M : Type 1} → statement M
 write-some-spec =
@@ -36,8 +39,9 @@ write-some-spec =
     slice-aggregate-records-of
     records-of-requires
     array-share-prefix-out
-    slice-aggregate-write-all
-    write-all-requires
-    say-wrong-requires
+    slice-aggregate-write-out
+    write-out-requires
     returns
-    returns-2)
+    say-wrong-requires
+    returns-2
+    returns-3)

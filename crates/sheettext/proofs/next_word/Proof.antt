@@ -5,7 +5,8 @@ use mathlib.Core.Path.{_≡_, refl, ap, _∙_}
 use mathlib.Core.Bool.{true}
 use lib.ListN.{length, drop}
 use Rattle.sheettext.specs.Parse.{runOf}
-use Rattle.sheettext.proofs.Laws.{all-from, part-length, size-at}
+use Rattle.sheetshow.proofs.Laws.{all-from, part-length}
+use Rattle.sheettext.proofs.Laws.{size-at}
 use borrow.Author.Needs.{needs}
 use Rattle.sheettext.proofs.next_word.Statement.{statement}
 use Rattle.sheettext.proofs.next_word.Tie as tie

@@ -1,9 +1,10 @@
 -- `sheettext::parse_line` meets its contract. Assumes nothing.
+use native.Mathlib.Omega.{arith}
 use mathlib.Core.Path.{sym, _∙_, ap}
-use lib.ListN.{take}
+use lib.ListN.{length, take}
 use lib.Seq.{length-take-le}
 use Rattle.sheettext.specs.Parse.{textSays, lineSays}
-use Rattle.sheettext.proofs.Laws.{found-at}
+use Rattle.sheettext.proofs.Laws.{found-at, good-longer}
 use borrow.Author.Needs.{needs}
 use Rattle.sheettext.proofs.parse_line.Statement.{statement}
 use Rattle.sheettext.proofs.parse_line.Tie as tie
@@ -19,8 +20,13 @@ text-says-requires c κs = search needs
 
 returns : tie.Need-returns
 unfolding lineSays
-returns c = (c .text-says .ensures .0 ∙ ap (λ k. textSays (take k (c .before .before .before .before .args .line .now))) (found-at 35 (c .before .before .before .before .args .line .now) (c .before .before .find .result) (c .before .before .find .ensures .0)), c .text-says .ensures .1)
+returns c = (c .text-says .ensures .0 ∙ ap (λ k. textSays (take k (c .before .before .before .before .args .line .now))) (found-at 35 (c .before .before .before .before .args .line .now) (c .before .before .find .result) (c .before .before .find .ensures .0)), good-longer (c .text-says .result) (length (take (c .before .before .find .result) (c .before .before .before .before .args .line .now))) (length (c .before .before .before .before .args .line .now)) (omega (arith, length-take-le (c .before .before .find .result) (c .before .before .before .before .args .line .now) (c .before .before .find .ensures .1), c .before .before .find .ensures .1)) (c .text-says .ensures .1))
 
 pub parse-line-spec : {M : Type 1} → statement M
 parse-line-spec =
-    tie.close (tie.spec find-requires slice-aggregate-text-says text-says-requires returns)
+    tie.close
+    (tie.spec
+    find-requires
+    slice-aggregate-text-says
+    text-says-requires
+    returns)

@@ -1,0 +1,15 @@
+-- `sheetshow::fits` meets its contract. Assumes nothing.
+use Rattle.sheetshow.specs.Uses.{fits}
+use Rattle.sheetshow.proofs.fits.Statement.{statement}
+use Rattle.sheetshow.proofs.fits.Tie as tie
+
+returns : tie.Need-returns
+unfolding fits
+returns c = rw (c .if1 .taken)
+
+returns-2 : tie.Need-returns-2
+unfolding fits
+returns-2 c = rw (c .if1 .left)
+
+pub fits-spec : {M : Type 1} → statement M
+fits-spec = tie.close (tie.spec returns returns-2)

@@ -1,0 +1,52 @@
+-- `sheetshow::uses` meets its contract. Assumes nothing.
+use borrow.Author.Tests.{eq-eqb, ne-eqb}
+use Rattle.sheetshow.specs.Uses.{uses}
+use borrow.Author.Needs.{needs}
+use Rattle.sheetshow.proofs.uses.Statement.{statement}
+use Rattle.sheetshow.proofs.uses.Tie as tie
+
+uses-allow-requires : tie.Need-uses-allow-requires
+uses-allow-requires c κs = search needs
+
+returns : tie.Need-returns
+unfolding uses
+returns c = rw (eq-eqb _ _ (c .before .if1 .taken)) (c .uses-allow .ensures)
+
+uses-place-requires : tie.Need-uses-place-requires
+uses-place-requires c κs = search needs
+
+returns-2 : tie.Need-returns-2
+unfolding uses
+returns-2 c = rw (ne-eqb _ _ (c .before .before .if1 .left), eq-eqb _ _ (c .before .if2 .taken)) (c .uses-place .ensures)
+
+uses-number-requires : tie.Need-uses-number-requires
+uses-number-requires c κs = search needs
+
+returns-3 : tie.Need-returns-3
+unfolding uses
+returns-3 c = rw (ne-eqb _ _ (c .before .before .before .if1 .left), ne-eqb _ _ (c .before .before .if2 .left), eq-eqb _ _ (c .before .if3 .taken)) (c .uses-number .ensures)
+
+returns-4 : tie.Need-returns-4
+unfolding uses
+returns-4 c = rw (ne-eqb _ _ (c .before .before .before .if1 .left), ne-eqb _ _ (c .before .before .if2 .left), ne-eqb _ _ (c .before .if3 .left), eq-eqb _ _ (c .if4 .taken))
+
+uses-key-requires : tie.Need-uses-key-requires
+uses-key-requires c κs = search needs
+
+returns-5 : tie.Need-returns-5
+unfolding uses
+returns-5 c = rw (ne-eqb _ _ (c .before .before .before .before .if1 .left), ne-eqb _ _ (c .before .before .before .if2 .left), ne-eqb _ _ (c .before .before .if3 .left), ne-eqb _ _ (c .before .if4 .left)) (c .uses-key .ensures)
+
+pub uses-spec : {M : Type 1} → statement M
+uses-spec =
+    tie.close
+    (tie.spec
+    uses-allow-requires
+    returns
+    uses-place-requires
+    returns-2
+    uses-number-requires
+    returns-3
+    returns-4
+    uses-key-requires
+    returns-5)

@@ -1,0 +1,25 @@
+-- `sheettext::field_of` meets its contract. Assumes nothing.
+use mathlib.Core.Path.{sym, _∙_}
+use borrow.Author.Tests.{eq-eqb, ne-eqb}
+use Rattle.lines.specs.Text.{bytesOf}
+use Rattle.sheettext.specs.Parse.{fieldNames, wordPlace, fieldOf}
+use borrow.Author.Needs.{needs}
+use Rattle.sheettext.proofs.field_of.Statement.{statement}
+use Rattle.sheettext.proofs.field_of.Tie as tie
+
+slice-aggregate-place-in : tie.Need-slice-aggregate-place-in
+slice-aggregate-place-in c = search needs
+
+place-in-requires : tie.Need-place-in-requires
+place-in-requires c κs = search needs
+
+returns : tie.Need-returns
+unfolding fieldOf bytesOf
+returns c = rw (eq-eqb (wordPlace fieldNames (c .before .before .before .before .args .name .now)) 7 (sym (c .before .place-in .ensures) ∙ c .if1 .taken))
+
+returns-2 : tie.Need-returns-2
+unfolding fieldOf bytesOf
+returns-2 c = rw (ne-eqb (wordPlace fieldNames (c .before .before .before .before .args .name .now)) 7 (λ k. c .if1 .left (c .before .place-in .ensures ∙ k))) (c .before .place-in .ensures)
+
+pub field-of-spec : {M : Type 1} → statement M
+field-of-spec = tie.close (tie.spec slice-aggregate-place-in place-in-requires returns returns-2)

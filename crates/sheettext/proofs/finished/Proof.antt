@@ -1,0 +1,35 @@
+-- `sheettext::finished` meets its contract. Assumes nothing.
+use native.Mathlib.Omega.{arith}
+use borrow.Author.Tests.{le-leb, eq-eqb, ne-eqb}
+use mathlib.Core.Path.{refl}
+use Rattle.sheettext.specs.Parse.{finished, goodLine}
+use Rattle.sheettext.proofs.Laws.{good-values}
+use borrow.Author.Needs.{needs}
+use Rattle.sheettext.proofs.finished.Statement.{statement}
+use Rattle.sheettext.proofs.finished.Tie as tie
+
+array-read-if1 : tie.Need-array-read-if1
+array-read-if1 c = search needs
+
+returns : tie.Need-returns
+unfolding finished
+returns c = (rw (eq-eqb _ _ (c .if1 .taken)), rw (le-leb _ _ (c .before .before .before .pre .1), le-leb (c .before .before .before .args .call .to) (c .before .before .before .args .call .to) (omega arith)))
+
+array-read-if2 : tie.Need-array-read-if2
+array-read-if2 c = search needs
+
+returns-2 : tie.Need-returns-2
+unfolding finished
+returns-2 c = (rw (ne-eqb _ _ (c .before .if1 .left), eq-eqb _ _ (c .if2 .taken)), rw (le-leb _ _ (c .before .before .before .before .pre .1), le-leb (c .before .before .before .before .args .call .to) (c .before .before .before .before .args .call .to) (omega arith)))
+
+record-of-requires : tie.Need-record-of-requires
+record-of-requires c κs = search needs
+
+returns-3 : tie.Need-returns-3
+unfolding finished
+returns-3 c = (rw (ne-eqb _ _ (c .before .before .if1 .left), ne-eqb _ _ (c .before .if2 .left), c .record-of .ensures), rw (c .record-of .ensures) (good-values (c .before .before .before .before .before .args .begun .values) (c .before .before .before .before .before .pre .0)))
+
+pub finished-spec : {M : Type 1} → statement M
+finished-spec =
+    tie.close
+    (tie.spec array-read-if1 returns array-read-if2 returns-2 record-of-requires returns-3)
