@@ -11,7 +11,7 @@ use lib.Dec.{eqb, ltb, leb}
 use lib.ListN.{length, take, drop, set, getD, drop-of-length-le}
 use lib.Seq.{drop-cons, take-length, drop-drop, getD-set-same, getD-set-other}
 use borrow.Author.Tests.{lt-ltb, le-ltb, le-leb, eq-eqb, ne-eqb, eqb-true, eqb-false, ltb-true, leb-true}
-use Rattle.basics.specs.Try.{ok, refuse, if_then_else_}
+use Rattle.basics.specs.Try.{ok, refuse}
 use Rattle.basics.proofs.Tests.{Is, is, yes!, no!, false-true, and-left, and-right}
 use Rattle.bytes.specs.Bytes.{indexOf, slice}
 use Rattle.sheetshow.specs.Good.{good}

@@ -13,7 +13,6 @@ use Rattle.lines.specs.Text.{bytesOf}
 use Rattle.sheetshow.specs.Good.{good}
 use Rattle.sheetshow.specs.Uses.{uses}
 use Rattle.sheettext.specs.declared.Parsed.{Parsed}
-use Rattle.sheettext.specs.declared.Fault.{Fault}
 use Rattle.sheettext.specs.declared.Begun.{Begun}
 use Rattle.sheettext.specs.declared.Span.{Span}
 use Rattle.sheettext.specs.declared.Number.{Number}

@@ -1,5 +1,4 @@
 -- `sheettext::begin` meets its contract. Assumes nothing.
-use native.Mathlib.Omega.{arith}
 use mathlib.Core.Path.{refl}
 use borrow.Author.Tests.{eq-eqb, ne-eqb}
 use Rattle.sheettext.specs.Parse.{begin, within}

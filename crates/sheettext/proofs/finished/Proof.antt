@@ -1,8 +1,7 @@
 -- `sheettext::finished` meets its contract. Assumes nothing.
 use native.Mathlib.Omega.{arith}
 use borrow.Author.Tests.{le-leb, eq-eqb, ne-eqb}
-use mathlib.Core.Path.{refl}
-use Rattle.sheettext.specs.Parse.{finished, goodLine}
+use Rattle.sheettext.specs.Parse.{finished}
 use Rattle.sheettext.proofs.Laws.{good-values}
 use borrow.Author.Needs.{needs}
 use Rattle.sheettext.proofs.finished.Statement.{statement}

@@ -1,7 +1,7 @@
 -- `sheettext::place_in` meets its contract. The invariant: the names passed and the place among those that are left make the place among all of them. Assumes nothing.
 use native.Mathlib.Omega.{arith}
 use Prim.Native.Nat.{_+_, _≤_}
-use mathlib.Core.Path.{_≡_, refl, sym, _∙_, ap}
+use mathlib.Core.Path.{_≡_}
 use lib.ListN.{length, drop}
 use Rattle.basics.proofs.Tests.{flag}
 use Rattle.sheettext.specs.Parse.{placeIn}

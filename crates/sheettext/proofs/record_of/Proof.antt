@@ -1,5 +1,4 @@
 -- `sheettext::record_of` meets its contract. Assumes nothing.
-use native.Mathlib.Omega.{arith}
 use Rattle.sheettext.specs.Parse.{recordOf}
 use Rattle.sheettext.proofs.Laws.{within-parts}
 use mathlib.Core.Path.{refl}
