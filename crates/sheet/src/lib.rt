@@ -9,6 +9,7 @@ ghost use Rattle.sheet.specs.Run.{runFrom, turns as turnsRule, ranAfter}
 use lines::Line;
 use lines::Said;
 use steps::Standing;
+use steps::Stepped;
 
 // What stands after a block of records, the number of the next record, how many bytes were printed, and whether `bad` ended it.
 pub struct Ran {
@@ -89,7 +90,10 @@ pub fn run(standing: Standing, first: u64, bytes: &[u8], out: &mut [u8]) -> Ran
     ensures { λ r. ⌜ length (now (out .exit)) ≡ length (now (out .entry)) ⌝ }
     ensures { λ r. ⌜ r .written ≤ length (now (out .entry)) ⌝ }
 {
-    let mut s = standing;
+    let mut stepped = Stepped {
+        standing: standing,
+        said: Said::Done,
+    };
     let mut number = first;
     let mut at: usize = 0;
     let mut written: usize = 0;
@@ -97,27 +101,26 @@ pub fn run(standing: Standing, first: u64, bytes: &[u8], out: &mut [u8]) -> Ran
     while 0 < left {
         if bytes.len() <= at {
             return Ran {
-                standing: s,
+                standing: stepped.standing,
                 number: number,
                 written: written,
                 ended: false,
             };
         }
-        let stepped = steps::step(s, &bytes[at..]);
+        stepped = steps::step(stepped.standing, &bytes[at..]);
         let said = stepped.said;
-        s = stepped.standing;
         written = write_record(
             number,
             said,
-            s.stands,
-            s.state.clean,
-            s.state.loading,
+            stepped.standing.stands,
+            stepped.standing.state.clean,
+            stepped.standing.state.loading,
             out,
             written,
         );
         if lines::is_bad(said) {
             return Ran {
-                standing: s,
+                standing: stepped.standing,
                 number: number,
                 written: written,
                 ended: true,
@@ -128,7 +131,7 @@ pub fn run(standing: Standing, first: u64, bytes: &[u8], out: &mut [u8]) -> Ran
         left -= 1;
     }
     Ran {
-        standing: s,
+        standing: stepped.standing,
         number: number,
         written: written,
         ended: false,

@@ -1,10 +1,16 @@
 // The run sheets of document 01: what stands between two records, and the step that a record makes.
 ghost use mathlib.Core.Path.{_≡_};
-ghost use Prim.Native.Nat.{_≤_, _<_, min};
+ghost use mathlib.Core.Bool.{Bool};
+ghost use mathlib.Core.List.{List};
+ghost use Prim.Native.Nat.{ℕ, _≤_, _<_, min};
 ghost use lib.ListN.{length, set};
+ghost use Rattle.basics.specs.Try.{if_then_else_};
+ghost use Rattle.basics.specs.Answers.{doneAnswer};
+ghost use Rattle.state.specs.Answers.{accessAnswer, foundAnswer};
 ghost use Rattle.state.specs.Remove.{needClean};
-ghost use Rattle.steps.specs.Standing.{emptyPlace, noPins, withPins, says, start as startRule, afresh as afreshRule};
-ghost use Rattle.steps.specs.Steps.{cleanAnswer, stepNew, stepAccess, stepPublish, stepAbort, stepLookup, stepRemove, stepPin, movePins, stepResize, stepReclaim, step as stepRule};
+ghost use Rattle.maintenance.specs.Answers.{sizeAnswer};
+ghost use Rattle.steps.specs.Standing.{emptyPlace, noPins, says, start as startRule, afresh as afreshRule};
+ghost use Rattle.steps.specs.Steps.{cleanAnswer, sayAccess, sayDone, sayFound, sayRemoved, movePins, saySize, sayCount, step as stepRule};
 use basics::Done;
 use key::CacheKey;
 use lines::Read;
@@ -100,192 +106,89 @@ fn pin_to(pins: &mut [u8; 256], slot: usize, pin: u8)
     }
 }
 
-// The word `done`, with one pin byte set.
-fn done_with_pin(mut s: Standing, slot: usize, pin: u8) -> Stepped
-    ensures { λ r. ⌜ r ≡ says (withPins s (set (s .pins) slot pin)) Said.Done ⌝ }
-{
-    pin_to(&mut s.pins, slot, pin);
-    Stepped {
-        standing: s,
-        said: Said::Done,
-    }
+// The pins after a record, and what it said.
+struct Pinned {
+    pins: [u8; 256],
+    said: Said,
 }
 
-// 1: a new table. A refused one leaves all as it was.
-fn new_step(s: Standing, asked: Record) -> Stepped
-    ensures { λ r. ⌜ r ≡ stepNew s asked ⌝ }
+// 2: a reservation puts its token in the named place. (Beside the word of access, in one struct, it would cost a table more.)
+fn hold(places: [Place; 16], place: usize, answer: Access) -> [Place; 16]
+    requires { ⌜ place < 16 ⌝ }
+    ensures { λ r. ⌜ ((was : State) (pins : List ℕ) (stands : Bool) (t : State) → sayAccess (record { state = was; places = places; pins = pins; stands = stands }) place t (accessAnswer answer) .standing ≡ record { state = t; places = r; pins = pins; stands = stands }) ⌝ }
 {
-    let made = State::try_new(asked.number);
-    let answer = made.answer;
-    if let Done::Refused(why) = answer {
-        return Stepped {
-            standing: s,
-            said: Said::Refused(why),
-        };
-    }
-    let t = made.state;
-    Stepped {
-        standing: afresh(t),
-        said: Said::Made(asked.number),
-    }
-}
-
-// 2: access. A reservation puts its token in the named place.
-fn access_step(mut s: Standing, asked: Record) -> Stepped
-    requires { ⌜ asked .place < 16 ⌝ }
-    ensures { λ r. ⌜ r ≡ stepAccess s asked ⌝ }
-{
-    let key = asked.key;
-    let pins = s.pins;
-    let t = s.state;
-    let count = lent(t.capacity);
-    let accessed = load::access(t, key, asked.allow, &pins[..count]);
-    let next = accessed.state;
-    s.state = next;
-    let answer = accessed.answer;
     match answer {
-        Access::Hit(slot) => Stepped {
-            standing: s,
-            said: Said::Hit(slot),
-        },
-        Access::LoadInProgress => Stepped {
-            standing: s,
-            said: Said::Loading,
-        },
-        Access::CapacityBusy => Stepped {
-            standing: s,
-            said: Said::Busy,
-        },
-        Access::Refused(why) => Stepped {
-            standing: s,
-            said: Said::Refused(why),
-        },
-        Access::Reserved(token, left) => {
-            let place = asked.place;
-            let slot = basics::wide(token.slot);
-            s.places[place] = Place {
+        Access::Hit(_) => places,
+        Access::LoadInProgress => places,
+        Access::CapacityBusy => places,
+        Access::Refused(_) => places,
+        Access::Reserved(token, _) => {
+            let mut held = places;
+            held[place] = Place {
                 token: token,
                 full: true,
             };
-            if left {
-                return Stepped {
-                    standing: s,
-                    said: Said::Evicted(slot),
-                };
-            }
-            Stepped {
-                standing: s,
-                said: Said::Reserved(slot),
-            }
+            held
         }
     }
 }
 
-// 3: publish. An empty token place gives 6.
-fn publish_step(mut s: Standing, asked: Record) -> Stepped
-    requires { ⌜ asked .place < 16 ⌝ }
-    ensures { λ r. ⌜ r ≡ stepPublish s asked ⌝ }
+// 2: the word of access.
+fn access_word(answer: Access) -> Said
+    ensures { λ r. ⌜ ((s : Standing) (place : ℕ) (t : State) → sayAccess s place t (accessAnswer answer) .said ≡ r) ⌝ }
 {
-    let place = asked.place;
-    let held = s.places[place];
-    if !held.full {
-        return Stepped {
-            standing: s,
-            said: Said::Refused(basics::STALE),
-        };
-    }
-    let token = held.token;
-    let t = s.state;
-    let published = tokens::publish(t, token);
-    let next = published.state;
-    s.state = next;
-    let answer = published.answer;
-    if let Done::Refused(why) = answer {
-        return Stepped {
-            standing: s,
-            said: Said::Refused(why),
-        };
-    }
-    Stepped {
-        standing: s,
-        said: Said::Done,
-    }
-}
-
-// 4: abort.
-fn abort_step(mut s: Standing, asked: Record) -> Stepped
-    requires { ⌜ asked .place < 16 ⌝ }
-    ensures { λ r. ⌜ r ≡ stepAbort s asked ⌝ }
-{
-    let place = asked.place;
-    let held = s.places[place];
-    if !held.full {
-        return Stepped {
-            standing: s,
-            said: Said::Refused(basics::STALE),
-        };
-    }
-    let token = held.token;
-    let t = s.state;
-    let aborted = tokens::abort(t, token);
-    let next = aborted.state;
-    s.state = next;
-    let answer = aborted.answer;
-    if let Done::Refused(why) = answer {
-        return Stepped {
-            standing: s,
-            said: Said::Refused(why),
-        };
-    }
-    Stepped {
-        standing: s,
-        said: Said::Done,
-    }
-}
-
-// 5: lookup.
-fn lookup_step(mut s: Standing, asked: Record) -> Stepped
-    ensures { λ r. ⌜ r ≡ stepLookup s asked ⌝ }
-{
-    let key = asked.key;
-    let t = s.state;
-    let looked = lookup::lookup(t, key);
-    let next = looked.state;
-    s.state = next;
-    let answer = looked.answer;
     match answer {
-        Found::At(slot) => Stepped {
-            standing: s,
-            said: Said::Hit(slot),
-        },
-        Found::Nothing => Stepped {
-            standing: s,
-            said: Said::Nothing,
-        },
-        Found::Refused(why) => Stepped {
-            standing: s,
-            said: Said::Refused(why),
-        },
+        Access::Hit(slot) => Said::Hit(slot),
+        Access::LoadInProgress => Said::Loading,
+        Access::CapacityBusy => Said::Busy,
+        Access::Refused(why) => Said::Refused(why),
+        Access::Reserved(token, left) => {
+            let slot = basics::wide(token.slot);
+            if left {
+                return Said::Evicted(slot);
+            }
+            Said::Reserved(slot)
+        }
     }
 }
 
-// 6: remove a slot. A pin goes with its key.
-fn remove_step(mut s: Standing, asked: Record) -> Stepped
-    ensures { λ r. ⌜ r ≡ stepRemove s asked ⌝ }
+// 3 and 4: the word of a call that hands back no value.
+fn done_word(answer: Done) -> Said
+    ensures { λ r. ⌜ ((s : Standing) → sayDone s (doneAnswer answer) ≡ says s r) ⌝ }
 {
-    let slot = asked.number;
-    let t = s.state;
-    let removed = detach::remove_clean(t, slot);
-    let next = removed.state;
-    s.state = next;
-    let answer = removed.answer;
+    match answer {
+        Done::Done => Said::Done,
+        Done::Refused(why) => Said::Refused(why),
+    }
+}
+
+// 5: the word of lookup.
+fn found_word(answer: Found) -> Said
+    ensures { λ r. ⌜ ((s : Standing) → sayFound s (foundAnswer answer) ≡ says s r) ⌝ }
+{
+    match answer {
+        Found::At(slot) => Said::Hit(slot),
+        Found::Nothing => Said::Nothing,
+        Found::Refused(why) => Said::Refused(why),
+    }
+}
+
+// 6: a pin goes with its key.
+fn after_remove(pins: [u8; 256], slot: usize, answer: Done) -> Pinned
+    ensures { λ r. ⌜ ((t : State) (places : List Place) (stands : Bool) → sayRemoved (record { state = t; places = places; pins = pins; stands = stands }) slot (doneAnswer answer) ≡ says (record { state = t; places = places; pins = r .pins; stands = stands }) (r .said)) ⌝ }
+{
     if let Done::Refused(why) = answer {
-        return Stepped {
-            standing: s,
+        return Pinned {
+            pins: pins,
             said: Said::Refused(why),
         };
     }
-    done_with_pin(s, slot, 0)
+    let mut left = pins;
+    pin_to(&mut left, slot, 0);
+    Pinned {
+        pins: left,
+        said: Said::Done,
+    }
 }
 
 // Whether a slot is clean: 5 and 8 as of remove.
@@ -303,29 +206,22 @@ fn check_clean(t: State, slot: usize) -> Done
     if t.capacity <= slot {
         return Done::Refused(basics::SLOT);
     }
-    let entry = t.slots[slot];
+    let slots = t.slots;
+    let entry = slots[slot];
     if entry.kind != state::CLEAN {
         return Done::Refused(basics::UNCLEAN);
     }
     Done::Done
 }
 
-// 7: set the pin of a clean slot.
-fn pin_step(mut s: Standing, asked: Record) -> Stepped
-    ensures { λ r. ⌜ r ≡ stepPin s asked ⌝ }
+// 7: the pin byte that is set.
+fn pin_byte(pin: bool) -> u8
+    ensures { λ r. ⌜ r ≡ (if pin then 1 else 0) ⌝ }
 {
-    let t = s.state;
-    let clean = check_clean(t, asked.number);
-    if let Done::Refused(why) = clean {
-        return Stepped {
-            standing: s,
-            said: Said::Refused(why),
-        };
+    if pin {
+        return 1;
     }
-    if asked.allow {
-        return done_with_pin(s, asked.number, 1);
-    }
-    done_with_pin(s, asked.number, 0)
+    0
 }
 
 // The pins of the old slots, each at the slot that the list gives its key.
@@ -348,66 +244,44 @@ fn move_pins(old: [u8; 256], list: &[u16]) -> [u8; 256]
     pins
 }
 
-// 8: resize. A pin goes with its key.
-fn resize_step(mut s: Standing, asked: Record) -> Stepped
-    ensures { λ r. ⌜ r ≡ stepResize s asked ⌝ }
+// 8: a pin goes with its key, to the slot that the list gives it.
+fn after_resize(pins: [u8; 256], list: &[u16], answer: Maintenance) -> Pinned
+    requires { ⌜ length (now list) ≤ 256 ⌝ }
+    ensures { λ r. ⌜ ((was : State) (places : List Place) (stands : Bool) (t : State) → saySize (record { state = was; places = places; pins = pins; stands = stands }) t (now (list .entry)) (sizeAnswer answer) ≡ says (record { state = t; places = places; pins = r .pins; stands = stands }) (r .said)) ⌝ }
 {
-    let pins = s.pins;
-    let t = s.state;
-    let count = lent(t.capacity);
-    let mut list: [u16; 256] = [basics::NONE; 256];
-    let maintained = maintenance::resize(t, asked.number, &pins[..count], &mut list[..count]);
-    let next = maintained.state;
-    s.state = next;
-    let answer = maintained.answer;
     match answer {
-        Maintenance::Unchanged => Stepped {
-            standing: s,
+        Maintenance::Unchanged => Pinned {
+            pins: pins,
             said: Said::Unchanged,
         },
-        Maintenance::Busy => Stepped {
-            standing: s,
+        Maintenance::Busy => Pinned {
+            pins: pins,
             said: Said::Busy,
         },
-        Maintenance::Refused(why) => Stepped {
-            standing: s,
+        Maintenance::Refused(why) => Pinned {
+            pins: pins,
             said: Said::Refused(why),
         },
-        Maintenance::Resized(capacity) => {
-            let moved = move_pins(pins, &list[..count]);
-            s.pins = moved;
-            Stepped {
-                standing: s,
-                said: Said::Resized(capacity),
-            }
-        }
+        Maintenance::Resized(capacity) => Pinned {
+            pins: move_pins(pins, list),
+            said: Said::Resized(capacity),
+        },
     }
 }
 
-// 9: reclaim.
-fn reclaim_step(mut s: Standing, asked: Record) -> Stepped
-    ensures { λ r. ⌜ r ≡ stepReclaim s asked ⌝ }
+// 9: the word of reclaim.
+fn count_word(count: usize, answer: Done) -> Said
+    ensures { λ r. ⌜ ((s : Standing) → sayCount s count (doneAnswer answer) ≡ says s r) ⌝ }
 {
-    let pins = s.pins;
-    let t = s.state;
-    let count = lent(t.capacity);
-    let batch = reclaim::reclaim(t, asked.number, &pins[..count]);
-    let next = batch.state;
-    s.state = next;
-    let answer = batch.answer;
-    if let Done::Refused(why) = answer {
-        return Stepped {
-            standing: s,
-            said: Said::Refused(why),
-        };
-    }
-    Stepped {
-        standing: s,
-        said: Said::Reclaimed(batch.count),
+    match answer {
+        Done::Done => Said::Reclaimed(count),
+        Done::Refused(why) => Said::Refused(why),
     }
 }
 
-// The step of the record at the front of some bytes.
+// The step of the record at the front of some bytes. Every call stands here and the result is made once, because a function of its own for each
+// code would take and hand back what stands by value, two tables copied more. `s` is not changed, nor lent, nor reached by an index: so it is
+// handed to a call where it lies.
 pub fn step(s: Standing, bytes: &[u8]) -> Stepped
     ensures { λ r. ⌜ r ≡ stepRule s (now (bytes .entry)) ⌝ }
 {
@@ -419,8 +293,21 @@ pub fn step(s: Standing, bytes: &[u8]) -> Stepped
         };
     };
     let code = asked.code;
+    let number = asked.number;
     if code == 1 {
-        return new_step(s, asked);
+        let made = State::try_new(number);
+        let answer = made.answer;
+        if let Done::Refused(why) = answer {
+            return Stepped {
+                standing: s,
+                said: Said::Refused(why),
+            };
+        }
+        let t = made.state;
+        return Stepped {
+            standing: afresh(t),
+            said: Said::Made(number),
+        };
     }
     if !s.stands {
         return Stepped {
@@ -428,26 +315,156 @@ pub fn step(s: Standing, bytes: &[u8]) -> Stepped
             said: Said::Bad,
         };
     }
+    let places = s.places;
+    let pins = s.pins;
     if code == 2 {
-        return access_step(s, asked);
+        let key = asked.key;
+        let count = lent(s.state.capacity);
+        let accessed = load::access(s.state, key, asked.allow, &pins[..count]);
+        let answer = accessed.answer;
+        let next = accessed.state;
+        let held = hold(places, asked.place, answer);
+        let after = Standing {
+            state: next,
+            places: held,
+            pins: pins,
+            stands: s.stands,
+        };
+        return Stepped {
+            standing: after,
+            said: access_word(answer),
+        };
     }
     if code == 3 {
-        return publish_step(s, asked);
+        let place = asked.place;
+        let held = places[place];
+        if !held.full {
+            return Stepped {
+                standing: s,
+                said: Said::Refused(basics::STALE),
+            };
+        }
+        let token = held.token;
+        let published = tokens::publish(s.state, token);
+        let answer = published.answer;
+        let next = published.state;
+        let after = Standing {
+            state: next,
+            places: places,
+            pins: pins,
+            stands: s.stands,
+        };
+        return Stepped {
+            standing: after,
+            said: done_word(answer),
+        };
     }
     if code == 4 {
-        return abort_step(s, asked);
+        let place = asked.place;
+        let held = places[place];
+        if !held.full {
+            return Stepped {
+                standing: s,
+                said: Said::Refused(basics::STALE),
+            };
+        }
+        let token = held.token;
+        let aborted = tokens::abort(s.state, token);
+        let answer = aborted.answer;
+        let next = aborted.state;
+        let after = Standing {
+            state: next,
+            places: places,
+            pins: pins,
+            stands: s.stands,
+        };
+        return Stepped {
+            standing: after,
+            said: done_word(answer),
+        };
     }
     if code == 5 {
-        return lookup_step(s, asked);
+        let key = asked.key;
+        let looked = lookup::lookup(s.state, key);
+        let answer = looked.answer;
+        let next = looked.state;
+        let after = Standing {
+            state: next,
+            places: places,
+            pins: pins,
+            stands: s.stands,
+        };
+        return Stepped {
+            standing: after,
+            said: found_word(answer),
+        };
     }
     if code == 6 {
-        return remove_step(s, asked);
+        let removed = detach::remove_clean(s.state, number);
+        let answer = removed.answer;
+        let next = removed.state;
+        let pinned = after_remove(pins, number, answer);
+        let rest = pinned.pins;
+        let said = pinned.said;
+        let after = Standing {
+            state: next,
+            places: places,
+            pins: rest,
+            stands: s.stands,
+        };
+        return Stepped {
+            standing: after,
+            said: said,
+        };
     }
     if code == 7 {
-        return pin_step(s, asked);
+        let clean = check_clean(s.state, number);
+        if let Done::Refused(why) = clean {
+            return Stepped {
+                standing: s,
+                said: Said::Refused(why),
+            };
+        }
+        let mut marked = pins;
+        pin_to(&mut marked, number, pin_byte(asked.allow));
+        let mut after = s;
+        after.pins = marked;
+        return Stepped {
+            standing: after,
+            said: Said::Done,
+        };
     }
+    let count = lent(s.state.capacity);
     if code == 8 {
-        return resize_step(s, asked);
+        let mut list: [u16; 256] = [basics::NONE; 256];
+        let maintained = maintenance::resize(s.state, number, &pins[..count], &mut list[..count]);
+        let answer = maintained.answer;
+        let next = maintained.state;
+        let pinned = after_resize(pins, &list[..count], answer);
+        let moved = pinned.pins;
+        let said = pinned.said;
+        let after = Standing {
+            state: next,
+            places: places,
+            pins: moved,
+            stands: s.stands,
+        };
+        return Stepped {
+            standing: after,
+            said: said,
+        };
     }
-    reclaim_step(s, asked)
+    let batch = reclaim::reclaim(s.state, number, &pins[..count]);
+    let answer = batch.answer;
+    let next = batch.state;
+    let after = Standing {
+        state: next,
+        places: places,
+        pins: pins,
+        stands: s.stands,
+    };
+    Stepped {
+        standing: after,
+        said: count_word(batch.count, answer),
+    }
 }

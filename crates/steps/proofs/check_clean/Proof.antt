@@ -17,21 +17,21 @@ returns c = rw (no (c .before .sound .ensures) (c .if1 .taken))
 
 returns-2 : tie.Need-returns-2
 unfolding needClean
-returns-2 c = rw (yes (c .before .before .sound .ensures) (c .before .if1 .left), le-ltb _ _ (c .if2 .taken))
+returns-2 c = rw (yes (c .before .before .before .sound .ensures) (c .before .before .if1 .left), le-ltb _ _ (c .if2 .taken))
 
 mul-entry : tie.Need-mul-entry
-mul-entry c = let f = sound-sizes (yes (c .before .before .sound .ensures) (c .before .if1 .left)) .small in let l = c .if2 .left in omega (arith, f, l)
+mul-entry c = let f = sound-sizes (yes (c .before .before .before .before .sound .ensures) (c .before .before .before .if1 .left)) .small in let l = c .before .if2 .left in omega (arith, f, l)
 
-element-copy-out-entry : tie.Need-element-copy-out-entry
-element-copy-out-entry c = let f = sound-sizes (yes (c .before .before .sound .ensures) (c .before .if1 .left)) .small in let l = c .if2 .left in omega (arith, f, l)
+array-copy-out-entry : tie.Need-array-copy-out-entry
+array-copy-out-entry c = let f = sound-sizes (yes (c .before .before .before .before .sound .ensures) (c .before .before .before .if1 .left)) .small in let l = c .before .if2 .left in omega (arith, f, l)
 
 returns-3 : tie.Need-returns-3
 unfolding needClean
-returns-3 c = rw (yes (c .before .before .before .before .before .sound .ensures) (c .before .before .before .before .if1 .left), lt-ltb _ _ (c .before .before .before .if2 .left), ne-eqb _ _ (c .if3 .taken))
+returns-3 c = rw (yes (c .before .before .before .before .before .before .before .sound .ensures) (c .before .before .before .before .before .before .if1 .left), lt-ltb _ _ (c .before .before .before .before .if2 .left), ne-eqb _ _ (c .if3 .taken))
 
 returns-4 : tie.Need-returns-4
 unfolding needClean
-returns-4 c = rw (yes (c .before .before .before .before .before .sound .ensures) (c .before .before .before .before .if1 .left), lt-ltb _ _ (c .before .before .before .if2 .left), eq-eqb _ _ (c .if3 .left))
+returns-4 c = rw (yes (c .before .before .before .before .before .before .before .sound .ensures) (c .before .before .before .before .before .before .if1 .left), lt-ltb _ _ (c .before .before .before .before .if2 .left), eq-eqb _ _ (c .if3 .left))
 
 pub check-clean-spec : {M : Type 1} → statement M
 check-clean-spec =
@@ -41,6 +41,6 @@ check-clean-spec =
     returns
     returns-2
     mul-entry
-    element-copy-out-entry
+    array-copy-out-entry
     returns-3
     returns-4)

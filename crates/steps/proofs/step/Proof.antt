@@ -1,11 +1,18 @@
--- `steps::step` meets its contract: each return is a case of the record. Assumes nothing.
-use mathlib.Core.Path.{sym, _∙_, ap}
-use borrow.Author.Tests.{ne-eqb}
+-- `steps::step` meets its contract: each return is a case of the record, by the law of its code. `list-known` is the length of the list that resize left. Assumes nothing.
+use mathlib.Core.Path.{_≡_, sym, _∙_, ap}
+use native.Mathlib.Omega.{arith}
+use lib.ListN.{length, drop, replicate}
+use lib.Seq.{length-take-le}
+use borrow.Author.Tests.{not-true, not-false}
+use Rattle.basics.specs.Numbers.{NONE}
 use Rattle.steps.specs.Steps.{stepCode}
-use Rattle.steps.proofs.Cases.{step-bad, step-new, step-before, step-code, place-told}
+use Rattle.steps.proofs.Cases.{front-fits, front-length, step-bad, step-new, step-before, step-code, step-rest, place-told, new-refused, new-made, access-made, publish-empty, publish-made, abort-empty, abort-made, lookup-made, remove-made, pin-refused, pin-made, resize-made, reclaim-made}
 use borrow.Author.Needs.{needs}
 use Rattle.steps.proofs.step.Statement.{statement}
 use Rattle.steps.proofs.step.Tie as tie
+
+pins-known : (c : tie.Start) → length (c .args .s .pins) ≡ 256
+pins-known c = search needs
 
 read-record-requires : tie.Need-read-record-requires
 read-record-requires c κs = search needs
@@ -19,70 +26,180 @@ enum-told c = search needs
 returns : tie.Need-returns
 returns c = sym (step-bad _ _ (c .before .before .read-record .ensures .0) (c .enum-told .given .1))
 
-new-step-requires : tie.Need-new-step-requires
-new-step-requires c κs = search needs
+try-new-requires : tie.Need-try-new-requires
+try-new-requires c κs = search needs
+
+enum-known-answer : tie.Need-enum-known-answer
+enum-known-answer c = search needs
 
 returns-2 : tie.Need-returns-2
-returns-2 c = c .new-step .ensures ∙ sym (step-new _ _ _ (c .before .before .before .before .before .read-record .ensures .0) (c .before .before .before .read .given .1) (c .before .if1 .taken))
+returns-2 c = new-refused _ _ _ (c .before .before .before .try-new .ensures) (c .before .answer .given .1) ∙ sym (step-new _ _ _ (c .before .before .before .before .before .before .before .before .read-record .ensures .0) (c .before .before .before .before .before .before .read .given .1) (c .before .before .before .before .if1 .taken))
+
+enum-told-2 : tie.Need-enum-told-2
+enum-told-2 c = search needs
+
+afresh-requires : tie.Need-afresh-requires
+afresh-requires c κs = search needs
 
 returns-3 : tie.Need-returns-3
-returns-3 c = sym (step-before _ _ _ (c .before .before .before .before .before .before .read-record .ensures .0) (c .before .before .before .before .read .given .1) (c .before .before .if1 .left) (c .if2 .taken))
-
-access-step-requires : tie.Need-access-step-requires
-access-step-requires c κs = place-told _ (c .before .before .before .before .before .read .given .1) (c .before .before .before .before .before .before .before .read-record .ensures .1)
+returns-3 c = new-made _ _ (c .before .before .before .before .try-new .ensures) (c .before .before .enum-told2 .given .1) (c .afresh .ensures) ∙ sym (step-new _ _ _ (c .before .before .before .before .before .before .before .before .before .read-record .ensures .0) (c .before .before .before .before .before .before .before .read .given .1) (c .before .before .before .before .before .if1 .taken))
 
 returns-4 : tie.Need-returns-4
-unfolding stepCode
-returns-4 c = c .access-step .ensures ∙ sym (step-code _ _ _ (c .before .before .before .before .before .before .before .before .read-record .ensures .0) (c .before .before .before .before .before .before .read .given .1) (c .before .before .before .before .if1 .left) (c .before .before .if2 .left) ∙ ap (stepCode _ _) (c .before .if3 .taken))
+returns-4 c = sym (step-before _ _ _ (c .before .before .before .before .before .before .read-record .ensures .0) (c .before .before .before .before .read .given .1) (c .before .before .if1 .left) (c .if2 .taken))
 
-publish-step-requires : tie.Need-publish-step-requires
-publish-step-requires c κs = place-told _ (c .before .before .before .before .before .before .read .given .1) (c .before .before .before .before .before .before .before .before .read-record .ensures .1)
+lent-requires : tie.Need-lent-requires
+lent-requires c κs = search needs
+
+array-share-prefix-pins : tie.Need-array-share-prefix-pins
+array-share-prefix-pins c = let e = pins-known (c .before .before .before .before .before .before .before .before .before .before .before .before .before) in omega (arith, e, c .lent .ensures)
+
+slice-aggregate-access : tie.Need-slice-aggregate-access
+slice-aggregate-access c = let e = pins-known (c .before .before .before .before .before .before .before .before .before .before .before .before .before .before) in sym (length-take-le (c .before .lent .result) (c .before .before .before .before .before .before .before .before .before .before .before .before .before .before .args .s .pins) (omega (arith, e, c .before .lent .ensures)))
+
+access-requires : tie.Need-access-requires
+access-requires c κs = search needs
+
+hold-requires : tie.Need-hold-requires
+hold-requires c κs = place-told _ (c .before .before .before .before .before .before .before .before .before .before .before .before .read .given .1) (c .before .before .before .before .before .before .before .before .before .before .before .before .before .before .read-record .ensures .1)
+
+access-word-requires : tie.Need-access-word-requires
+access-word-requires c κs = search needs
 
 returns-5 : tie.Need-returns-5
 unfolding stepCode
-returns-5 c = c .publish-step .ensures ∙ sym (step-code _ _ _ (c .before .before .before .before .before .before .before .before .before .read-record .ensures .0) (c .before .before .before .before .before .before .before .read .given .1) (c .before .before .before .before .before .if1 .left) (c .before .before .before .if2 .left) ∙ ap (stepCode _ _) (c .before .if4 .taken))
+returns-5 c = access-made _ _ (c .before .before .before .access .result) _ (pins-known (c .before .before .before .before .before .before .before .before .before .before .before .before .before .before .before .before .before .before)) (c .before .before .before .before .before .lent .ensures) (c .before .before .before .access .ensures) (c .before .hold .ensures) (c .access-word .ensures) ∙ sym (step-code _ _ _ (c .before .before .before .before .before .before .before .before .before .before .before .before .before .before .before .before .read-record .ensures .0) (c .before .before .before .before .before .before .before .before .before .before .before .before .before .before .read .given .1) (c .before .before .before .before .before .before .before .before .before .before .before .before .if1 .left) (c .before .before .before .before .before .before .before .before .before .before .if2 .left) ∙ ap (stepCode _ _) (c .before .before .before .before .before .before .before .if3 .taken))
 
-abort-step-requires : tie.Need-abort-step-requires
-abort-step-requires c κs = place-told _ (c .before .before .before .before .before .before .before .read .given .1) (c .before .before .before .before .before .before .before .before .before .read-record .ensures .1)
+mul-held : tie.Need-mul-held
+mul-held c = let h = place-told _ (c .before .before .before .before .before .before .before .before .read .given .1) (c .before .before .before .before .before .before .before .before .before .before .read-record .ensures .1) in omega (arith, h)
+
+array-copy-out-held : tie.Need-array-copy-out-held
+array-copy-out-held c = let h = place-told _ (c .before .before .before .before .before .before .before .before .read .given .1) (c .before .before .before .before .before .before .before .before .before .before .read-record .ensures .1) in omega (arith, h)
 
 returns-6 : tie.Need-returns-6
 unfolding stepCode
-returns-6 c = c .abort-step .ensures ∙ sym (step-code _ _ _ (c .before .before .before .before .before .before .before .before .before .before .read-record .ensures .0) (c .before .before .before .before .before .before .before .before .read .given .1) (c .before .before .before .before .before .before .if1 .left) (c .before .before .before .before .if2 .left) ∙ ap (stepCode _ _) (c .before .if5 .taken))
+returns-6 c = publish-empty _ _ (not-true _ (c .if5 .taken)) ∙ sym (step-code _ _ _ (c .before .before .before .before .before .before .before .before .before .before .before .before .before .read-record .ensures .0) (c .before .before .before .before .before .before .before .before .before .before .before .read .given .1) (c .before .before .before .before .before .before .before .before .before .if1 .left) (c .before .before .before .before .before .before .before .if2 .left) ∙ ap (stepCode _ _) (c .before .before .before .if4 .taken))
 
-lookup-step-requires : tie.Need-lookup-step-requires
-lookup-step-requires c κs = search needs
+publish-requires : tie.Need-publish-requires
+publish-requires c κs = search needs
+
+done-word-requires : tie.Need-done-word-requires
+done-word-requires c κs = search needs
 
 returns-7 : tie.Need-returns-7
 unfolding stepCode
-returns-7 c = c .lookup-step .ensures ∙ sym (step-code _ _ _ (c .before .before .before .before .before .before .before .before .before .before .before .read-record .ensures .0) (c .before .before .before .before .before .before .before .before .before .read .given .1) (c .before .before .before .before .before .before .before .if1 .left) (c .before .before .before .before .before .if2 .left) ∙ ap (stepCode _ _) (c .before .if6 .taken))
+returns-7 c = publish-made _ _ (c .before .before .publish .result) (not-false _ (c .before .before .before .before .if5 .left)) (c .before .before .publish .ensures) (c .done-word .ensures) ∙ sym (step-code _ _ _ (c .before .before .before .before .before .before .before .before .before .before .before .before .before .before .before .before .before .read-record .ensures .0) (c .before .before .before .before .before .before .before .before .before .before .before .before .before .before .before .read .given .1) (c .before .before .before .before .before .before .before .before .before .before .before .before .before .if1 .left) (c .before .before .before .before .before .before .before .before .before .before .before .if2 .left) ∙ ap (stepCode _ _) (c .before .before .before .before .before .before .before .if4 .taken))
 
-remove-step-requires : tie.Need-remove-step-requires
-remove-step-requires c κs = search needs
+mul-held-2 : tie.Need-mul-held-2
+mul-held-2 c = let h = place-told _ (c .before .before .before .before .before .before .before .before .before .read .given .1) (c .before .before .before .before .before .before .before .before .before .before .before .read-record .ensures .1) in omega (arith, h)
+
+array-copy-out-held-2 : tie.Need-array-copy-out-held-2
+array-copy-out-held-2 c = let h = place-told _ (c .before .before .before .before .before .before .before .before .before .read .given .1) (c .before .before .before .before .before .before .before .before .before .before .before .read-record .ensures .1) in omega (arith, h)
 
 returns-8 : tie.Need-returns-8
 unfolding stepCode
-returns-8 c = c .remove-step .ensures ∙ sym (step-code _ _ _ (c .before .before .before .before .before .before .before .before .before .before .before .before .read-record .ensures .0) (c .before .before .before .before .before .before .before .before .before .before .read .given .1) (c .before .before .before .before .before .before .before .before .if1 .left) (c .before .before .before .before .before .before .if2 .left) ∙ ap (stepCode _ _) (c .before .if7 .taken))
+returns-8 c = abort-empty _ _ (not-true _ (c .if7 .taken)) ∙ sym (step-code _ _ _ (c .before .before .before .before .before .before .before .before .before .before .before .before .before .before .read-record .ensures .0) (c .before .before .before .before .before .before .before .before .before .before .before .before .read .given .1) (c .before .before .before .before .before .before .before .before .before .before .if1 .left) (c .before .before .before .before .before .before .before .before .if2 .left) ∙ ap (stepCode _ _) (c .before .before .before .if6 .taken))
 
-pin-step-requires : tie.Need-pin-step-requires
-pin-step-requires c κs = search needs
+abort-requires : tie.Need-abort-requires
+abort-requires c κs = search needs
+
+done-word-requires-2 : tie.Need-done-word-requires-2
+done-word-requires-2 c κs = search needs
 
 returns-9 : tie.Need-returns-9
 unfolding stepCode
-returns-9 c = c .pin-step .ensures ∙ sym (step-code _ _ _ (c .before .before .before .before .before .before .before .before .before .before .before .before .before .read-record .ensures .0) (c .before .before .before .before .before .before .before .before .before .before .before .read .given .1) (c .before .before .before .before .before .before .before .before .before .if1 .left) (c .before .before .before .before .before .before .before .if2 .left) ∙ ap (stepCode _ _) (c .before .if8 .taken))
+returns-9 c = abort-made _ _ (c .before .before .abort .result) (not-false _ (c .before .before .before .before .if7 .left)) (c .before .before .abort .ensures) (c .done-word2 .ensures) ∙ sym (step-code _ _ _ (c .before .before .before .before .before .before .before .before .before .before .before .before .before .before .before .before .before .before .read-record .ensures .0) (c .before .before .before .before .before .before .before .before .before .before .before .before .before .before .before .before .read .given .1) (c .before .before .before .before .before .before .before .before .before .before .before .before .before .before .if1 .left) (c .before .before .before .before .before .before .before .before .before .before .before .before .if2 .left) ∙ ap (stepCode _ _) (c .before .before .before .before .before .before .before .if6 .taken))
 
-resize-step-requires : tie.Need-resize-step-requires
-resize-step-requires c κs = search needs
+lookup-requires : tie.Need-lookup-requires
+lookup-requires c κs = search needs
+
+found-word-requires : tie.Need-found-word-requires
+found-word-requires c κs = search needs
 
 returns-10 : tie.Need-returns-10
 unfolding stepCode
-returns-10 c = c .resize-step .ensures ∙ sym (step-code _ _ _ (c .before .before .before .before .before .before .before .before .before .before .before .before .before .before .read-record .ensures .0) (c .before .before .before .before .before .before .before .before .before .before .before .before .read .given .1) (c .before .before .before .before .before .before .before .before .before .before .if1 .left) (c .before .before .before .before .before .before .before .before .if2 .left) ∙ ap (stepCode _ _) (c .before .if9 .taken))
+returns-10 c = lookup-made _ _ (c .before .before .lookup .result) (c .before .before .lookup .ensures) (c .found-word .ensures) ∙ sym (step-code _ _ _ (c .before .before .before .before .before .before .before .before .before .before .before .before .before .before .before .before .read-record .ensures .0) (c .before .before .before .before .before .before .before .before .before .before .before .before .before .before .read .given .1) (c .before .before .before .before .before .before .before .before .before .before .before .before .if1 .left) (c .before .before .before .before .before .before .before .before .before .before .if2 .left) ∙ ap (stepCode _ _) (c .before .before .before .before .if8 .taken))
 
-reclaim-step-requires : tie.Need-reclaim-step-requires
-reclaim-step-requires c κs = search needs
+remove-clean-requires : tie.Need-remove-clean-requires
+remove-clean-requires c κs = search needs
+
+after-remove-requires : tie.Need-after-remove-requires
+after-remove-requires c κs = search needs
 
 returns-11 : tie.Need-returns-11
 unfolding stepCode
-returns-11 c = c .reclaim-step .ensures ∙ sym (step-code _ _ _ (c .before .before .before .before .before .before .before .before .before .before .before .before .before .before .read-record .ensures .0) (c .before .before .before .before .before .before .before .before .before .before .before .before .read .given .1) (c .before .before .before .before .before .before .before .before .before .before .if1 .left) (c .before .before .before .before .before .before .before .before .if2 .left) ∙ rw (ne-eqb _ _ (c .before .before .before .before .before .before .before .if3 .left), ne-eqb _ _ (c .before .before .before .before .before .before .if4 .left), ne-eqb _ _ (c .before .before .before .before .before .if5 .left), ne-eqb _ _ (c .before .before .before .before .if6 .left), ne-eqb _ _ (c .before .before .before .if7 .left), ne-eqb _ _ (c .before .before .if8 .left), ne-eqb _ _ (c .before .if9 .left)))
+returns-11 c = remove-made _ _ (c .before .before .before .remove-clean .result) (c .before .before .before .remove-clean .ensures) (c .before .after-remove .ensures) ∙ sym (step-code _ _ _ (c .before .before .before .before .before .before .before .before .before .before .before .before .before .before .before .before .before .read-record .ensures .0) (c .before .before .before .before .before .before .before .before .before .before .before .before .before .before .before .read .given .1) (c .before .before .before .before .before .before .before .before .before .before .before .before .before .if1 .left) (c .before .before .before .before .before .before .before .before .before .before .before .if2 .left) ∙ ap (stepCode _ _) (c .before .before .before .before .if9 .taken))
+
+check-clean-requires : tie.Need-check-clean-requires
+check-clean-requires c κs = search needs
+
+enum-known-clean : tie.Need-enum-known-clean
+enum-known-clean c = search needs
+
+returns-12 : tie.Need-returns-12
+unfolding stepCode
+returns-12 c = pin-refused _ _ _ (c .before .before .before .check-clean .ensures) (c .before .clean .given .1) ∙ sym (step-code _ _ _ (c .before .before .before .before .before .before .before .before .before .before .before .before .before .before .before .before .before .before .read-record .ensures .0) (c .before .before .before .before .before .before .before .before .before .before .before .before .before .before .before .before .read .given .1) (c .before .before .before .before .before .before .before .before .before .before .before .before .before .before .if1 .left) (c .before .before .before .before .before .before .before .before .before .before .before .before .if2 .left) ∙ ap (stepCode _ _) (c .before .before .before .before .if10 .taken))
+
+enum-told-3 : tie.Need-enum-told-3
+enum-told-3 c = search needs
+
+pin-byte-requires : tie.Need-pin-byte-requires
+pin-byte-requires c κs = search needs
+
+pin-to-requires : tie.Need-pin-to-requires
+pin-to-requires c κs = pins-known (c .before .before .before .before .before .before .before .before .before .before .before .before .before .before .before .before .before .before .before .before .before)
+
+returns-13 : tie.Need-returns-13
+unfolding stepCode
+returns-13 c = pin-made _ _ (c .before .before .before .before .before .check-clean .ensures) (c .before .before .before .enum-told3 .given .1) (c .before .pin-byte .ensures) (c .pin-to .ensures) ∙ sym (step-code _ _ _ (c .before .before .before .before .before .before .before .before .before .before .before .before .before .before .before .before .before .before .before .before .read-record .ensures .0) (c .before .before .before .before .before .before .before .before .before .before .before .before .before .before .before .before .before .before .read .given .1) (c .before .before .before .before .before .before .before .before .before .before .before .before .before .before .before .before .if1 .left) (c .before .before .before .before .before .before .before .before .before .before .before .before .before .before .if2 .left) ∙ ap (stepCode _ _) (c .before .before .before .before .before .before .if10 .taken))
+
+lent-requires-2 : tie.Need-lent-requires-2
+lent-requires-2 c κs = search needs
+
+array-share-prefix-pins-2 : tie.Need-array-share-prefix-pins-2
+array-share-prefix-pins-2 c = let e = pins-known (c .before .before .before .before .before .before .before .before .before .before .before .before .before .before .before .before .before .before) in omega (arith, e, c .before .lent2 .ensures)
+
+slice-aggregate-resize : tie.Need-slice-aggregate-resize
+slice-aggregate-resize c = let e = pins-known (c .before .before .before .before .before .before .before .before .before .before .before .before .before .before .before .before .before .before .before) in sym (length-take-le (c .before .before .lent2 .result) (c .before .before .before .before .before .before .before .before .before .before .before .before .before .before .before .before .before .before .before .args .s .pins) (omega (arith, e, c .before .before .lent2 .ensures)))
+
+array-borrow-prefix-list : tie.Need-array-borrow-prefix-list
+array-borrow-prefix-list c = search needs
+
+slice-aggregate-resize-2 : tie.Need-slice-aggregate-resize-2
+slice-aggregate-resize-2 c = sym (length-take-le (c .before .before .before .lent2 .result) (replicate 256 NONE) (omega (arith, c .before .before .before .lent2 .ensures)))
+
+resize-requires : tie.Need-resize-requires
+resize-requires c κs = search needs
+
+list-known : (c : tie.After-resize) → length (c .resize .last .1 .1 .1 .0) ≡ c .before .before .before .before .lent2 .result
+list-known c = c .resize .kept .1 .1 .1 .0 ∙ length-take-le (c .before .before .before .before .lent2 .result) (replicate 256 NONE) (omega (arith, c .before .before .before .before .lent2 .ensures))
+
+array-share-prefix-list : tie.Need-array-share-prefix-list
+array-share-prefix-list c = front-fits (c .before .before .resize .last .1 .1 .1 .0) (drop (c .before .before .before .before .before .before .lent2 .result) (replicate 256 NONE)) _ (list-known (c .before .before))
+
+slice-aggregate-after-resize : tie.Need-slice-aggregate-after-resize
+slice-aggregate-after-resize c = sym (front-length (c .before .before .before .resize .last .1 .1 .1 .0) (drop (c .before .before .before .before .before .before .before .lent2 .result) (replicate 256 NONE)) _ (list-known (c .before .before .before)))
+
+after-resize-requires : tie.Need-after-resize-requires
+after-resize-requires c κs = let e = list-known (c .before .before .before) in rw front-length (omega (arith, c .before .before .before .before .before .before .before .lent2 .ensures))
+
+returns-14 : tie.Need-returns-14
+unfolding stepCode
+returns-14 c = resize-made _ _ (c .before .before .before .before .before .resize .result) _ _ (pins-known (c .before .before .before .before .before .before .before .before .before .before .before .before .before .before .before .before .before .before .before .before .before .before .before .before .before .before)) (c .before .before .before .before .before .before .before .before .before .lent2 .ensures) (c .before .before .before .before .before .resize .ensures) (list-known (c .before .before .before .before .before)) (c .before .after-resize .ensures) ∙ sym (step-code _ _ _ (c .before .before .before .before .before .before .before .before .before .before .before .before .before .before .before .before .before .before .before .before .before .before .before .before .read-record .ensures .0) (c .before .before .before .before .before .before .before .before .before .before .before .before .before .before .before .before .before .before .before .before .before .before .read .given .1) (c .before .before .before .before .before .before .before .before .before .before .before .before .before .before .before .before .before .before .before .before .if1 .left) (c .before .before .before .before .before .before .before .before .before .before .before .before .before .before .before .before .before .before .if2 .left) ∙ ap (stepCode _ _) (c .before .before .before .before .before .before .before .before .if11 .taken))
+
+array-share-prefix-pins-3 : tie.Need-array-share-prefix-pins-3
+array-share-prefix-pins-3 c = let e = pins-known (c .before .before .before .before .before .before .before .before .before .before .before .before .before .before .before .before .before .before) in omega (arith, e, c .before .lent2 .ensures)
+
+slice-aggregate-reclaim : tie.Need-slice-aggregate-reclaim
+slice-aggregate-reclaim c = let e = pins-known (c .before .before .before .before .before .before .before .before .before .before .before .before .before .before .before .before .before .before .before) in sym (length-take-le (c .before .before .lent2 .result) (c .before .before .before .before .before .before .before .before .before .before .before .before .before .before .before .before .before .before .before .args .s .pins) (omega (arith, e, c .before .before .lent2 .ensures)))
+
+reclaim-requires : tie.Need-reclaim-requires
+reclaim-requires c κs = search needs
+
+count-word-requires : tie.Need-count-word-requires
+count-word-requires c κs = search needs
+
+returns-15 : tie.Need-returns-15
+returns-15 c = reclaim-made _ _ (c .before .before .reclaim .result) _ (pins-known (c .before .before .before .before .before .before .before .before .before .before .before .before .before .before .before .before .before .before .before .before .before .before)) (c .before .before .before .before .before .lent2 .ensures) (c .before .before .reclaim .ensures) (c .count-word .ensures) ∙ sym (step-rest _ _ _ (c .before .before .before .before .before .before .before .before .before .before .before .before .before .before .before .before .before .before .before .before .read-record .ensures .0) (c .before .before .before .before .before .before .before .before .before .before .before .before .before .before .before .before .before .before .read .given .1) (c .before .before .before .before .before .before .before .before .before .before .before .before .before .before .before .before .if1 .left) (c .before .before .before .before .before .before .before .before .before .before .before .before .before .before .if2 .left) (c .before .before .before .before .before .before .before .before .before .before .before .if3 .left) (c .before .before .before .before .before .before .before .before .before .before .if4 .left) (c .before .before .before .before .before .before .before .before .before .if6 .left) (c .before .before .before .before .before .before .before .before .if8 .left) (c .before .before .before .before .before .before .before .if9 .left) (c .before .before .before .before .before .before .if10 .left) (c .before .before .before .before .if11 .left))
 
 pub step-spec : {M : Type 1} → statement M
 step-spec =
@@ -92,22 +209,57 @@ step-spec =
     enum-known-read
     enum-told
     returns
-    new-step-requires
+    try-new-requires
+    enum-known-answer
     returns-2
+    enum-told-2
+    afresh-requires
     returns-3
-    access-step-requires
     returns-4
-    publish-step-requires
+    lent-requires
+    array-share-prefix-pins
+    slice-aggregate-access
+    access-requires
+    hold-requires
+    access-word-requires
     returns-5
-    abort-step-requires
+    mul-held
+    array-copy-out-held
     returns-6
-    lookup-step-requires
+    publish-requires
+    done-word-requires
     returns-7
-    remove-step-requires
+    mul-held-2
+    array-copy-out-held-2
     returns-8
-    pin-step-requires
+    abort-requires
+    done-word-requires-2
     returns-9
-    resize-step-requires
+    lookup-requires
+    found-word-requires
     returns-10
-    reclaim-step-requires
-    returns-11)
+    remove-clean-requires
+    after-remove-requires
+    returns-11
+    check-clean-requires
+    enum-known-clean
+    returns-12
+    enum-told-3
+    pin-byte-requires
+    pin-to-requires
+    returns-13
+    lent-requires-2
+    array-share-prefix-pins-2
+    slice-aggregate-resize
+    array-borrow-prefix-list
+    slice-aggregate-resize-2
+    resize-requires
+    array-share-prefix-list
+    slice-aggregate-after-resize
+    after-resize-requires
+    returns-14
+    array-share-prefix-pins-3
+    slice-aggregate-reclaim
+    reclaim-requires
+    count-word-requires
+    returns-15)

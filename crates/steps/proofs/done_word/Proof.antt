@@ -1,0 +1,22 @@
+-- `steps::done_word` meets its contract. Assumes nothing.
+use Rattle.steps.specs.Steps.{sayDone}
+use borrow.Author.Needs.{needs}
+use Rattle.steps.proofs.done_word.Statement.{statement}
+use Rattle.steps.proofs.done_word.Tie as tie
+
+enum-told : tie.Need-enum-told
+enum-told c = search needs
+
+enum-known-answer : tie.Need-enum-known-answer
+enum-known-answer c = search needs
+
+returns : tie.Need-returns
+unfolding sayDone
+returns c = λ s. rw (c .enum-told .given .1)
+
+returns-2 : tie.Need-returns-2
+unfolding sayDone
+returns-2 c = λ s. rw (c .before .answer .given .1)
+
+pub done-word-spec : {M : Type 1} → statement M
+done-word-spec = tie.close (tie.spec enum-told enum-known-answer returns returns-2)
