@@ -90,6 +90,7 @@ pub fn run(standing: Standing, first: u64, bytes: &[u8], out: &mut [u8]) -> Ran
     ensures { λ r. ⌜ length (now (out .exit)) ≡ length (now (out .entry)) ⌝ }
     ensures { λ r. ⌜ r .written ≤ length (now (out .entry)) ⌝ }
 {
+    // A local of the type that `step` answers with, so that the answer lands where it stays.
     let mut stepped = Stepped {
         standing: standing,
         said: Said::Done,
@@ -100,8 +101,9 @@ pub fn run(standing: Standing, first: u64, bytes: &[u8], out: &mut [u8]) -> Ran
     let mut left = turns(first, out.len());
     while 0 < left {
         if bytes.len() <= at {
+            let last = stepped.standing;
             return Ran {
-                standing: stepped.standing,
+                standing: last,
                 number: number,
                 written: written,
                 ended: false,
@@ -119,8 +121,9 @@ pub fn run(standing: Standing, first: u64, bytes: &[u8], out: &mut [u8]) -> Ran
             written,
         );
         if lines::is_bad(said) {
+            let last = stepped.standing;
             return Ran {
-                standing: stepped.standing,
+                standing: last,
                 number: number,
                 written: written,
                 ended: true,
@@ -130,8 +133,9 @@ pub fn run(standing: Standing, first: u64, bytes: &[u8], out: &mut [u8]) -> Ran
         at += lines::RECORD;
         left -= 1;
     }
+    let last = stepped.standing;
     Ran {
-        standing: stepped.standing,
+        standing: last,
         number: number,
         written: written,
         ended: false,

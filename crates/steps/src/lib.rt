@@ -361,14 +361,14 @@ pub fn step(s: Standing, bytes: &[u8]) -> Stepped
     }
     if code == 4 {
         let place = asked.place;
-        let held = places[place];
-        if !held.full {
+        let shown = places[place];
+        if !shown.full {
             return Stepped {
                 standing: s,
                 said: Said::Refused(basics::STALE),
             };
         }
-        let token = held.token;
+        let token = shown.token;
         let aborted = tokens::abort(s.state, token);
         let answer = aborted.answer;
         let next = aborted.state;

@@ -28,13 +28,13 @@ unfolding turns
 loop-holds c = (refl, refl, refl, omega arith, omega arith, omega arith)
 
 same-length : tie.Need-same-length Inv-loop μ-loop
-same-length c = @loop .inv .2
+same-length c = c .before .before .before .loop .inv .2
 
 returns : tie.Need-returns Inv-loop μ-loop
 returns c =
-    let here = @loop in
-    let given = @args in
-    (run-end (here .left) (here .stepped .standing) (here .number) (drop (here .at) (given .bytes .now)) (take (here .written) (here .out)) (simp length-drop (omega arith)) ∙ here .inv .0 ∙ ap (λ k. runFrom k (given .standing) (given .first) (given .bytes .now)) (@turns .ensures), (here .inv .1, (here .inv .2, omega arith)))
+    let here = c .before .before .before .loop in
+    let given = c .before .before .before .before .before .before .before .args in
+    (run-end (here .left) (here .stepped .standing) (here .number) (drop (here .at) (given .bytes .now)) (take (here .written) (here .out)) (simp length-drop (omega arith)) ∙ here .inv .0 ∙ ap (λ k. runFrom k (given .standing) (given .first) (given .bytes .now)) (c .before .before .before .before .turns .ensures), (here .inv .1, (here .inv .2, omega arith)))
 
 sub-step : tie.Need-sub-step Inv-loop μ-loop
 sub-step c = search needs
@@ -55,33 +55,33 @@ is-bad-requires : tie.Need-is-bad-requires Inv-loop μ-loop
 is-bad-requires c κs = search needs
 
 same-length-2 : tie.Need-same-length-2 Inv-loop μ-loop
-same-length-2 c = @write-record .ensures .1 .1 .0 ∙ @loop .inv .2
+same-length-2 c = c .before .before .before .before .before .write-record .ensures .1 .1 .0 ∙ c .before .before .before .before .before .before .before .before .before .before .before .loop .inv .2
 
 returns-2 : tie.Need-returns-2 Inv-loop μ-loop
 unfolding lineAfter cleanOf loadingOf
 returns-2 c =
-    let here = @loop in
-    let given = @args in
-    let stepped = @step in
+    let here = c .before .before .before .before .before .before .before .before .before .before .before .loop in
+    let given = c .before .before .before .before .before .before .before .before .before .before .before .before .before .before .before .args in
+    let stepped = c .before .before .before .before .before .before .before .step in
     let told = stepped .ensures ∙ ap (step (here .stepped .standing)) (rest (given .bytes .now) (here .at)) in
-    let wrote = @write-record in
-    let turn = @loop-test .taken in
+    let wrote = c .before .before .before .before .before .write-record in
+    let turn = c .before .before .before .before .before .before .before .before .before .before .loop-test .taken in
     let room : here .written ≤ wrote .result = wrote .ensures .1 .1 .1 .0 in
     let more : 0 < length (drop (here .at) (given .bytes .now)) = simp length-drop (omega arith) in
     let line = wrote .ensures .0 in
-    (run-bad (here .left) (here .stepped .standing) (here .number) (drop (here .at) (given .bytes .now)) (take (here .written) (here .out)) (take (wrote .result) (wrote .last .1 .1 .1 .1 .1 .0)) (stepped .result) told turn more line (sym (@is-bad .ensures) ∙ @if2 .taken) ∙ here .inv .0 ∙ ap (λ k. runFrom k (given .standing) (given .first) (given .bytes .now)) (@turns .ensures), (wrote .ensures .1 .0 ∙ later (here .out) (given .out .now) (here .written) (wrote .result) room (here .inv .1), (wrote .ensures .1 .1 .0 ∙ here .inv .2, omega (arith, here .inv .3, wrote .ensures .1 .1 .1 .1, turn))))
+    (run-bad (here .left) (here .stepped .standing) (here .number) (drop (here .at) (given .bytes .now)) (take (here .written) (here .out)) (take (wrote .result) (wrote .last .1 .1 .1 .1 .1 .0)) (stepped .result) told turn more line (sym (c .before .before .is-bad .ensures) ∙ c .before .if2 .taken) ∙ here .inv .0 ∙ ap (λ k. runFrom k (given .standing) (given .first) (given .bytes .now)) (c .before .before .before .before .before .before .before .before .before .before .before .before .turns .ensures), (wrote .ensures .1 .0 ∙ later (here .out) (given .out .now) (here .written) (wrote .result) room (here .inv .1), (wrote .ensures .1 .1 .0 ∙ here .inv .2, omega (arith, here .inv .3, wrote .ensures .1 .1 .1 .1, turn))))
 
 add-number : tie.Need-add-number Inv-loop μ-loop
 add-number c = search needs
 
 add-at : tie.Need-add-at Inv-loop μ-loop
 add-at c =
-    let here = @loop in
-    let given = @args in
-    let stepped = @step in
+    let here = c .before .before .before .before .before .before .before .before .before .before .loop in
+    let given = c .before .before .before .before .before .before .before .before .before .before .before .before .before .before .args in
+    let stepped = c .before .before .before .before .before .before .step in
     let told = stepped .ensures ∙ ap (step (here .stepped .standing)) (rest (given .bytes .now) (here .at)) in
-    let h = whole (here .stepped .standing) (drop (here .at) (given .bytes .now)) (stepped .result) told (sym (@is-bad .ensures) ∙ @if2 .left) in
-    let fits = @good .1 .1 .0 in
+    let h = whole (here .stepped .standing) (drop (here .at) (given .bytes .now)) (stepped .result) told (sym (c .before .is-bad .ensures) ∙ c .if2 .left) in
+    let fits = c .before .before .before .before .before .before .before .before .before .before .before .before .before .before .good .1 .1 .0 in
     omega (arith, length-drop (here .at) (given .bytes .now))
 
 sub-left : tie.Need-sub-left Inv-loop μ-loop
@@ -93,28 +93,28 @@ loop-less c = search needs
 loop-again : tie.Need-loop-again Inv-loop μ-loop
 unfolding lineAfter cleanOf loadingOf
 loop-again c =
-    let here = @loop in
-    let given = @args in
-    let stepped = @step in
+    let here = c .before .before .before .before .before .before .before .before .before .before .loop in
+    let given = c .before .before .before .before .before .before .before .before .before .before .before .before .before .before .args in
+    let stepped = c .before .before .before .before .before .before .step in
     let told = stepped .ensures ∙ ap (step (here .stepped .standing)) (rest (given .bytes .now) (here .at)) in
-    let wrote = @write-record in
-    let turn = @loop-test .taken in
+    let wrote = c .before .before .before .before .write-record in
+    let turn = c .before .before .before .before .before .before .before .before .before .loop-test .taken in
     let room : here .written ≤ wrote .result = wrote .ensures .1 .1 .1 .0 in
     let more : 0 < length (drop (here .at) (given .bytes .now)) = simp length-drop (omega arith) in
     let line = wrote .ensures .0 in
-    let good = sym (@is-bad .ensures) ∙ @if2 .left in
+    let good = sym (c .before .is-bad .ensures) ∙ c .if2 .left in
     let h = whole (here .stepped .standing) (drop (here .at) (given .bytes .now)) (stepped .result) told good in
     let w = length-drop (here .at) (given .bytes .now) in
     (rw (← drop-drop 24 (here .at) (given .bytes .now)) (run-on (here .left) (here .stepped .standing) (here .number) (drop (here .at) (given .bytes .now)) (take (here .written) (here .out)) (take (wrote .result) (wrote .last .1 .1 .1 .1 .1 .0)) (stepped .result) told turn more line good) ∙ here .inv .0, wrote .ensures .1 .0 ∙ later (here .out) (given .out .now) (here .written) (wrote .result) room (here .inv .1), wrote .ensures .1 .1 .0 ∙ here .inv .2, omega (arith, here .inv .3, wrote .ensures .1 .1 .1 .1, turn), omega (arith, here .inv .4, turn), omega arith)
 
 same-length-3 : tie.Need-same-length-3 Inv-loop μ-loop
-same-length-3 c = @loop .inv .2
+same-length-3 c = c .before .before .loop .inv .2
 
 returns-3 : tie.Need-returns-3 Inv-loop μ-loop
 returns-3 c =
-    let here = @loop in
-    let given = @args in
-    (run-full (here .left) (here .stepped .standing) (here .number) (drop (here .at) (given .bytes .now)) (take (here .written) (here .out)) (omega arith) ∙ here .inv .0 ∙ ap (λ k. runFrom k (given .standing) (given .first) (given .bytes .now)) (@turns .ensures), (here .inv .1, (here .inv .2, omega arith)))
+    let here = c .before .before .loop in
+    let given = c .before .before .before .before .before .before .args in
+    (run-full (here .left) (here .stepped .standing) (here .number) (drop (here .at) (given .bytes .now)) (take (here .written) (here .out)) (omega arith) ∙ here .inv .0 ∙ ap (λ k. runFrom k (given .standing) (given .first) (given .bytes .now)) (c .before .before .before .turns .ensures), (here .inv .1, (here .inv .2, omega arith)))
 
 pub run-spec : {M : Type 1} → statement M
 run-spec =

@@ -89,11 +89,11 @@ returns-7 : tie.Need-returns-7
 unfolding stepCode
 returns-7 c = publish-made _ _ (c .before .before .publish .result) (not-false _ (c .before .before .before .before .if5 .left)) (c .before .before .publish .ensures) (c .done-word .ensures) ∙ sym (step-code _ _ _ (c .before .before .before .before .before .before .before .before .before .before .before .before .before .before .before .before .before .read-record .ensures .0) (c .before .before .before .before .before .before .before .before .before .before .before .before .before .before .before .read .given .1) (c .before .before .before .before .before .before .before .before .before .before .before .before .before .if1 .left) (c .before .before .before .before .before .before .before .before .before .before .before .if2 .left) ∙ ap (stepCode _ _) (c .before .before .before .before .before .before .before .if4 .taken))
 
-mul-held-2 : tie.Need-mul-held-2
-mul-held-2 c = let h = place-told _ (c .before .before .before .before .before .before .before .before .before .read .given .1) (c .before .before .before .before .before .before .before .before .before .before .before .read-record .ensures .1) in omega (arith, h)
+mul-shown : tie.Need-mul-shown
+mul-shown c = let h = place-told _ (c .before .before .before .before .before .before .before .before .before .read .given .1) (c .before .before .before .before .before .before .before .before .before .before .before .read-record .ensures .1) in omega (arith, h)
 
-array-copy-out-held-2 : tie.Need-array-copy-out-held-2
-array-copy-out-held-2 c = let h = place-told _ (c .before .before .before .before .before .before .before .before .before .read .given .1) (c .before .before .before .before .before .before .before .before .before .before .before .read-record .ensures .1) in omega (arith, h)
+array-copy-out-shown : tie.Need-array-copy-out-shown
+array-copy-out-shown c = let h = place-told _ (c .before .before .before .before .before .before .before .before .before .read .given .1) (c .before .before .before .before .before .before .before .before .before .before .before .read-record .ensures .1) in omega (arith, h)
 
 returns-8 : tie.Need-returns-8
 unfolding stepCode
@@ -229,8 +229,8 @@ step-spec =
     publish-requires
     done-word-requires
     returns-7
-    mul-held-2
-    array-copy-out-held-2
+    mul-shown
+    array-copy-out-shown
     returns-8
     abort-requires
     done-word-requires-2
