@@ -2,7 +2,7 @@
 // original: oracle/README.md has both forms. A case that is cut off, or has an unknown code, ends the program, and so does a read or a
 // write that fails.
 ghost use mathlib.Core.Path.{_≡_};
-ghost use Prim.Native.Nat.{_≤_, _<_, _^_};
+ghost use Prim.Native.Nat.{_≤_, _<_};
 ghost use lib.ListN.{length};
 ghost use Rattle.made_up.specs.Places.{Within};
 use basics::Done;
@@ -76,7 +76,7 @@ const FULL: usize = 131072;
 
 // ---- Numbers, low byte first. Past the end there are zeros.
 
-// A place so many bytes on.
+// A place some bytes on.
 fn over(at: usize, bytes: usize) -> usize
     ensures { λ r. ⌜ r ≤ 1048576 ⌝ }
 {
@@ -124,7 +124,7 @@ fn low_8(bytes: &[u8], at: usize) -> u64 {
     lower + 4294967296 * upper
 }
 
-// The first so many words of a list, and the place behind them. A case does not tell what stands past them: the first place there and the last
+// The first words of a list, as many as are counted, and the place behind them. A case does not tell what stands past them: the first place there and the last
 // hold 7, and so in the lists below, so that it is seen whether they stay.
 fn read_words(bytes: &[u8], from: usize, list: &mut [u16], count: usize) -> usize {
     let mut at = from;

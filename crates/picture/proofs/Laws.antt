@@ -6,7 +6,7 @@ use native.Mathlib.Nat.{add-zero}
 use mathlib.Core.Path.{_≡_, refl, sym, _∙_, ap}
 use mathlib.Core.Bool.{Bool, true, false}
 use mathlib.Core.List.{List, [], _∷_, _++_, append-assoc, append-nil, map}
-use lib.Dec.{eqb, leb}
+use lib.Dec.{leb}
 use lib.ListN.{length, take, drop, set, getD, length-append, length-set, length-drop, length-map, drop-of-length-le}
 use lib.Seq.{sets, set-out, drop-cons, take-all, take-nil}
 use borrow.Author.Tests.{eq-eqb, ne-eqb, leb-true, leb-false}

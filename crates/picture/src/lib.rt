@@ -10,7 +10,7 @@ ghost use lib.Dec.{leb};
 ghost use Rattle.basics.specs.Try.{if_then_else_};
 ghost use Rattle.lines.specs.Text.{decimal};
 ghost use Rattle.picture.specs.Wrote.{Wrote};
-ghost use Rattle.picture.specs.Numbers.{spaced, allZero, placed, told, held, below, past};
+ghost use Rattle.picture.specs.Numbers.{spaced, allZero, placed, told, held, past};
 ghost use Rattle.picture.specs.Table.{wordNumbers, slotNumbers, entryNumbers, indexNumbers, heapNumbers, tableNumbers, indexPast, heapPast, pastNumbers};
 use eviction::Entry;
 use eviction::EvictionHeap;
@@ -40,7 +40,7 @@ pub fn least(length: usize, places: usize) -> usize
     places
 }
 
-// The bytes before a place go to standard output where they are more than so many.
+// The bytes before a place go to standard output where they are more than `most`.
 pub fn flush(out: &[u8], at: usize, most: usize) -> Waits
     ensures { λ r. ⌜ r .count ≡ (if leb (min at (length (now (out .entry)))) most then min at (length (now (out .entry))) else 0) ⌝ }
     ensures { λ r. ⌜ (min at (length (now (out .entry))) ≤ most → r .failed ≡ false) ⌝ }
@@ -272,7 +272,7 @@ fn walk_entries(
     to
 }
 
-// The first so many of a list's slots or places.
+// The first slots or places of a list, `count` of them.
 pub fn put_words(out: &mut [u8], at: usize, list: &[u16], count: usize) -> usize
     ensures { λ r. ⌜ Wrote (now (out .entry)) at (spaced (take count (now (list .entry)))) r (now (out .exit)) ⌝ }
 {

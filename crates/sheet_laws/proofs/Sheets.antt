@@ -125,7 +125,7 @@ table-says n code k e =
 pub step-refused : (s : Standing) (n : ℕ) → Orderly s → Counted n (s .state) → (bytes : List ℕ) (k : ℕ) → step s bytes .said ≡ Said.Refused k → RefusedBy n (byteAt bytes 0) k
 step-refused s n o c bytes k e = table-says n (byteAt bytes 0) k (subst (λ (w : Said). sayable (spentBy n) (byteAt bytes 0) w ≡ true) e (step-fair s n o c bytes .said))
 
--- after so many records of any sheet
+-- after n records of any sheet
 pub sheet-refused : (records : ℕ) (sheet bytes : List ℕ) (k : ℕ) → step (runFrom records start 0 sheet .standing) bytes .said ≡ Said.Refused k → RefusedBy records (byteAt bytes 0) k
 sheet-refused records sheet bytes k e = let (o, c) = sheet-stands records sheet in step-refused (runFrom records start 0 sheet .standing) records o c bytes k e
 

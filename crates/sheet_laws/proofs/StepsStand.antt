@@ -1,7 +1,7 @@
 -- Every record leaves what stands in order, and says only what its code can. Assumes nothing.
 use Prim.Native.Nat.{ℕ, _≤_, _^_}
 use native.Mathlib.Omega.{arith}
-use mathlib.Core.Path.{_≡_, refl, sym, ap, _∙_, subst}
+use mathlib.Core.Path.{_≡_, refl, sym, ap, subst}
 use mathlib.Core.Bool.{Bool, true, false, not, _&&_}
 use mathlib.Core.List.{List}
 use mathlib.Core.Option.{Option, none, some}

@@ -60,7 +60,7 @@ shown r =
     ++ fieldText (bytesOf " place=") (r .place) 0
     ++ NEWLINE ∷ []
 
--- the lines of some records, up to the first that is bad, and of at most so many
+-- the lines of some records, up to the first that is bad, and of at most as many as steps are left
 abbrev pub lineBefore : Read → List ℕ → List ℕ
 lineBefore (Read.Whole r) more = shown r ++ more
 lineBefore Read.Bad more = []

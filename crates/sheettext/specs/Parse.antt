@@ -79,7 +79,7 @@ sameBytes [] (b ∷ bs) = false
 sameBytes (a ∷ as') [] = false
 sameBytes (a ∷ as') (b ∷ bs) = eqb a b && sameBytes as' bs
 
--- the place of a word in a list of names, from 0, of which there are at most so many; how many there are where it is none of them
+-- the place of a word in a list of names, from 0, of which there are at most as many as steps are left; how many there are where it is none of them
 unfoldable pub placeIn : ℕ → List ℕ → List ℕ → ℕ
 placeIn zero names w = 0
 placeIn (suc left) names w =
@@ -213,7 +213,7 @@ finished b call =
 abbrev pub going : Begun → ℕ → ℕ → (Begun → Parsed) → Parsed
 going b from to go = if ltb 0 (b .wrong) then faulty (b .wrong) from to else go b
 
--- a call with the words behind it, of which there are at most so many: they begin at a place of the line
+-- a call with the words behind it, of which there are at most as many as steps are left: they begin at a place of the line
 unfoldable pub withWords : ℕ → Begun → Span → ℕ → List ℕ → Parsed
 withWords zero b call at text = finished b call
 withWords (suc left) b call at text =

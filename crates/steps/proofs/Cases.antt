@@ -39,7 +39,7 @@ use Rattle.lines.specs.Record.{readRecord, placeOf}
 use Rattle.steps.specs.Steps.{sayNew, stepNew, sayAccess, accessOf, stepAccess, sayDone, sayToken, stepPublish, stepAbort, sayFound, stepLookup, sayRemoved, stepRemove, cleanAnswer, sayPinned, stepPin, movePins, saySize, resizeOf, stepResize, sayCount, reclaimOf, stepReclaim, stepCode, stepRecord, step}
 use Rattle.steps.specs.declared.Place.{Place}
 use Rattle.steps.specs.declared.Standing.{Standing}
-use Rattle.steps.specs.Standing.{noPins, afresh, withState, withPins, withToken, placeAt, lentPins, lentList, says}
+use Rattle.steps.specs.Standing.{afresh, withState, withPins, withToken, placeAt, lentPins, lentList, says}
 
 -- a part of a list that is as long as asked, or whole
 pub take-least : {A : Type 0} (l : List A) (c n : ℕ) → n ≡ min c (length l) → take n l ≡ take c l

@@ -14,7 +14,6 @@ ghost use Rattle.steps.specs.Steps.{cleanAnswer, sayAccess, sayDone, say
 use basics::Done;
 use key::CacheKey;
 use lines::Read;
-use lines::Record;
 use lines::Said;
 use maintenance::Maintenance;
 use state::Access;
