@@ -341,9 +341,10 @@ fn damaged(all: &mut Aimed) {
     // The place of slot 0 is that of another, or none.
     for place in [1, 2, NONE] {
         let table = on(&two, &|table| table.positions[0] = place);
-        for (code, word) in [(ACCESS, "refused 10"), (LOOKUP, "refused 10"), (REMOVE, "refused 10"), (DETACH, "refused 10"), (PEEK_CLEAN, "found 0")] {
-            all.push((word, call(code, &table)));
+        for code in [ACCESS, LOOKUP, REMOVE, DETACH] {
+            all.push(("refused 10", call(code, &table)));
         }
+        all.push(("found 0", call(PEEK_CLEAN, &table)));
         all.push(("refused 10", of_file(ACCESS, &table, 3)));
         all.push(("refused 10", of_number(RECLAIM, &table, 1)));
         all.push(("refused 10", of_number(RESIZE, &table, 1)));
