@@ -52,7 +52,7 @@ impl Record {
         CacheKey { file: self.file, kind: self.kind, index: self.index }
     }
 
-    fn in_range(&self) -> bool {
+    pub fn in_range(&self) -> bool {
         (NEW..=RECLAIM).contains(&self.code) && self.allow <= 1 && self.place <= 15
     }
 }
