@@ -4,7 +4,7 @@ use mathlib.Core.Option.{Option, none, some}
 use Rattle.basics.specs.Try.{Try, ok, refuse}
 use Rattle.basics.specs.Answers.{Fine, done}
 use Rattle.state.specs.Answers.{Given, hit, inProgress, reserved, evicted, busy}
-use Rattle.maintenance.specs.Answers.{Size, unchanged, busyNow, resized}
+use Rattle.maintenance_resize.specs.Answers.{Size, unchanged, busyNow, resized}
 use Rattle.bench.specs.declared.Sum.{Sum}
 
 abbrev pub noSum : Sum

@@ -5,12 +5,12 @@ ghost use mathlib.Core.Path.{_≡_};
 ghost use Prim.Native.Nat.{min};
 ghost use Rattle.basics.specs.Answers.{doneAnswer};
 ghost use Rattle.state.specs.Answers.{accessAnswer, foundAnswer};
-ghost use Rattle.maintenance.specs.Answers.{sizeAnswer};
+ghost use Rattle.maintenance_resize.specs.Answers.{sizeAnswer};
 ghost use Rattle.bench.specs.Sum.{plus, wordOf, accessNumber, doneNumber, foundNumber, sizeNumber};
 ghost use Rattle.bench.specs.Run.{noToken, checksum};
 use basics::Done;
 use key::CacheKey;
-use maintenance::Maintenance;
+use maintenance_resize::Maintenance;
 use state::Access;
 use state::Accessed;
 use state::Found;
@@ -157,7 +157,7 @@ pub extern "C" fn tallboycrow_bench(sheet: &[u64]) -> u64
             let answer = made.answer;
             sum = add(sum, of_done(answer));
         } else if code == 2 {
-            held = load::access(held.state, key, true, &pins[..count]);
+            held = state_access::access(held.state, key, true, &pins[..count]);
             let answer = held.answer;
             if let Access::Reserved(token, _) = answer {
                 tokens[place] = token;
@@ -165,27 +165,27 @@ pub extern "C" fn tallboycrow_bench(sheet: &[u64]) -> u64
             sum = add(sum, of_access(answer));
         } else if code == 3 {
             let token = tokens[place];
-            let published = tokens::publish(held.state, token);
+            let published = state_tokens::publish(held.state, token);
             let next = published.state;
             held.state = next;
             let answer = published.answer;
             sum = add(sum, of_done(answer));
         } else if code == 4 {
             let token = tokens[place];
-            let aborted = tokens::abort(held.state, token);
+            let aborted = state_tokens::abort(held.state, token);
             let next = aborted.state;
             held.state = next;
             let answer = aborted.answer;
             sum = add(sum, of_done(answer));
         } else if code == 5 {
-            let looked = lookup::lookup(held.state, key);
+            let looked = state_lookup::lookup(held.state, key);
             let next = looked.state;
             held.state = next;
             let answer = looked.answer;
             sum = add(sum, of_found(answer));
         } else if code == 8 {
             let mut list: [u16; 256] = [basics::NONE; 256];
-            let maintained = maintenance::resize(
+            let maintained = maintenance_resize::resize(
                 held.state,
                 number,
                 &pins[..count],
@@ -196,7 +196,7 @@ pub extern "C" fn tallboycrow_bench(sheet: &[u64]) -> u64
             let answer = maintained.answer;
             sum = add(sum, of_maintenance(answer));
         } else {
-            let batch = reclaim::reclaim(held.state, number, &pins[..count]);
+            let batch = maintenance_reclaim::reclaim(held.state, number, &pins[..count]);
             let next = batch.state;
             held.state = next;
             sum = add(sum, word(10000, batch.count));

@@ -70,20 +70,20 @@ fn found(answer: Found) -> usize {
 fn k3_and_k4() {
     let pins = [0u8; 4];
     let made = State::try_new(4);
-    let a = load::access(made.state, key(1), true, &pins);
-    let b = load::access(a.state, key(2), true, &pins);
-    let c = load::access(b.state, key(3), true, &pins);
-    let d = load::access(c.state, key(4), true, &pins);
+    let a = state_access::access(made.state, key(1), true, &pins);
+    let b = state_access::access(a.state, key(2), true, &pins);
+    let c = state_access::access(b.state, key(3), true, &pins);
+    let d = state_access::access(c.state, key(4), true, &pins);
     say(b"K3");
     number(slot_of(a));
     number(slot_of(b));
     number(slot_of(c));
     number(slot_of(d));
     say(b"\nK4");
-    let e = tokens::abort(d.state, token_of(b));
-    let f = tokens::abort(e.state, token_of(d));
-    let g = load::access(f.state, key(5), true, &pins);
-    let h = load::access(g.state, key(6), true, &pins);
+    let e = state_tokens::abort(d.state, token_of(b));
+    let f = state_tokens::abort(e.state, token_of(d));
+    let g = state_access::access(f.state, key(5), true, &pins);
+    let h = state_access::access(g.state, key(6), true, &pins);
     number(slot_of(g));
     number(slot_of(h));
     say(b"\n");
@@ -93,10 +93,10 @@ fn k3_and_k4() {
 fn k5() {
     let pins = [0u8; 2];
     let made = State::try_new(2);
-    let a = load::access(made.state, key(1), true, &pins);
-    let b = load::access(a.state, key(2), true, &pins);
-    let c = tokens::publish(b.state, token_of(b));
-    let d = tokens::publish(c.state, token_of(a));
+    let a = state_access::access(made.state, key(1), true, &pins);
+    let b = state_access::access(a.state, key(2), true, &pins);
+    let c = state_tokens::publish(b.state, token_of(b));
+    let d = state_tokens::publish(c.state, token_of(a));
     say(b"K5");
     number(found(d.state.oldest_clean()));
     say(b"\n");
@@ -105,8 +105,8 @@ fn k5() {
 // A key is reserved and published.
 fn loaded(t: State, file: u64) -> State {
     let pins = [0u8; 5];
-    let a = load::access(t, key(file), true, &pins);
-    let b = tokens::publish(a.state, token_of(a));
+    let a = state_access::access(t, key(file), true, &pins);
+    let b = state_tokens::publish(a.state, token_of(a));
     b.state
 }
 
@@ -121,7 +121,7 @@ fn k6_and_k7() {
     t = loaded(t, 3);
     t = loaded(t, 4);
     t = loaded(t, 5);
-    let hit = load::access(t, key(1), true, &pins);
+    let hit = state_access::access(t, key(1), true, &pins);
     let u = hit.state;
     say(b"K6");
     number(found(u.cold_candidate(0)));
@@ -130,7 +130,7 @@ fn k6_and_k7() {
     number(found(u.cold_candidate(3)));
     number(found(u.cold_candidate(4)));
     let pinned = [0u8, 1, 0, 0, 0];
-    let victim = load::access(u, key(6), true, &pinned);
+    let victim = state_access::access(u, key(6), true, &pinned);
     say(b"\nK7");
     number(slot_of(victim));
     say(b"\n");
@@ -155,13 +155,13 @@ fn k8() {
     let mut file: u64 = 0;
     let mut left: usize = 63;
     while 0 < left {
-        let a = load::access(t, key(file), true, &pins);
+        let a = state_access::access(t, key(file), true, &pins);
         t = a.state;
         file = (file + 256) % 65536;
         left -= 1;
     }
-    let b = load::access(t, key(file), true, &pins);
-    let c = load::access(b.state, key(file + 256), true, &pins);
+    let b = state_access::access(t, key(file), true, &pins);
+    let c = state_access::access(b.state, key(file + 256), true, &pins);
     say(b"K8");
     word(b);
     word(c);
@@ -174,7 +174,7 @@ fn k10() {
     let made = State::try_new(1);
     let mut t = made.state;
     t.next_access_sequence = basics::MAX;
-    let a = load::access(t, key(1), true, &pins);
+    let a = state_access::access(t, key(1), true, &pins);
     let answer = a.answer;
     say(b"K10");
     if let Access::Refused(why) = answer {
@@ -190,8 +190,8 @@ fn k10() {
 fn k11() {
     let pins = [0u8; 1];
     let made = State::try_new(1);
-    let a = load::access(made.state, key(1), true, &pins);
-    let b = lookup::lookup(a.state, key(1));
+    let a = state_access::access(made.state, key(1), true, &pins);
+    let b = state_lookup::lookup(a.state, key(1));
     let answer = b.answer;
     say(b"K11");
     match answer {

@@ -2,10 +2,10 @@
 use mathlib.Core.List.{List, [], _∷_}
 use Rattle.state.specs.declared.State.{State}
 use Rattle.state.specs.Fresh.{fresh}
-use Rattle.invariant.specs.Table.{Valid}
-use Rattle.invariant.proofs.FreshTable.{fresh-valid}
-use Rattle.invariant.proofs.CallsKeep.{access-keeps, publish-keeps, abort-keeps, lookup-keeps, remove-keeps, detach-keeps}
-use Rattle.maintenance_laws.proofs.CallsKeep.{resize-keeps, reclaim-keeps}
+use Rattle.laws_table.specs.Table.{Valid}
+use Rattle.laws_table.proofs.FreshTable.{fresh-valid}
+use Rattle.laws_table.proofs.CallsKeep.{access-keeps, publish-keeps, abort-keeps, lookup-keeps, remove-keeps, detach-keeps}
+use Rattle.laws_maintenance.proofs.CallsKeep.{resize-keeps, reclaim-keeps}
 use Rattle.ledger.specs.Calls.{Call, access, publish, abort, lookup, remove, detach, resize, reclaim, rules, event, after, run}
 use Rattle.ledger.specs.Valid.{Runs, StaysValid}
 

@@ -13,10 +13,10 @@ use Rattle.state.specs.Access as TheAccess
 use Rattle.state.specs.Tokens as TheTokens
 use Rattle.state.specs.Lookup as TheLookup
 use Rattle.state.specs.Remove as TheRemove
-use Rattle.maintenance.specs.Answers.{Size, Resizing}
-use Rattle.reclaim.specs.Answers.{Reclaiming}
-use Rattle.maintenance.specs.Resize as TheResize
-use Rattle.reclaim.specs.Reclaim as TheReclaim
+use Rattle.maintenance_resize.specs.Answers.{Size, Resizing}
+use Rattle.maintenance_reclaim.specs.Answers.{Reclaiming}
+use Rattle.maintenance_resize.specs.Resize as TheResize
+use Rattle.maintenance_reclaim.specs.Reclaim as TheReclaim
 
 -- what works out the eight calls: access, publish, abort, lookup, remove, detach, resize and reclaim. The reads hand back no table, so
 -- "Reads may come between; they change nothing."

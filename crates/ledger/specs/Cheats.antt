@@ -13,8 +13,8 @@ use Rattle.state.specs.declared.State.{State}
 use Rattle.state.specs.Slots.{slotAt}
 use Rattle.state.specs.Parts.{withSlot}
 use Rattle.state.specs.Answers.{Given, hit, inProgress, reserved, evicted, busy}
-use Rattle.maintenance.specs.Answers as Size
-use Rattle.reclaim.specs.Reclaim.{noSlots}
+use Rattle.maintenance_resize.specs.Answers as Size
+use Rattle.maintenance_reclaim.specs.Reclaim.{noSlots}
 use Rattle.ledger.specs.Calls.{Machine, rules}
 
 -- "CapacityBusy before looking at stack or heap"

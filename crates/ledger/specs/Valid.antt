@@ -6,7 +6,7 @@ use mathlib.Core.List.{List}
 use Rattle.basics.specs.Try.{Try, refuse}
 use Rattle.basics.specs.Refusals.{STOP}
 use Rattle.state.specs.Fresh.{fresh}
-use Rattle.invariant.specs.Table.{Valid}
+use Rattle.laws_table.specs.Table.{Valid}
 use Rattle.ledger.specs.Calls.{Machine, Call, Event, accessed, published, aborted, looked, removed, detached, resized, reclaimed, event, run}
 
 -- an answer that is not 10

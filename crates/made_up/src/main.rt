@@ -10,7 +10,7 @@ use eviction::Entry;
 use eviction::EvictionHeap;
 use index::Index;
 use key::CacheKey;
-use maintenance::Maintenance;
+use maintenance_resize::Maintenance;
 use state::Access;
 use state::CleanEntry;
 use state::Counters;
@@ -435,7 +435,7 @@ fn run_resize(
     ensures { λ r. ⌜ Within (r .at) (now (out .entry)) (now (out .exit)) ⌝ }
 {
     let places = picture::least(count, list.len());
-    let maintained = maintenance::resize(t, asked, pins, &mut list[..places]);
+    let maintained = maintenance_resize::resize(t, asked, pins, &mut list[..places]);
     let answer = maintained.answer;
     let next = maintained.state;
     let a = put_maintenance(out, at, answer, places);
@@ -447,7 +447,7 @@ fn run_resize(
 fn run_reclaim(out: &mut [u8], at: usize, t: State, limit: usize, pins: &[u8]) -> Ran
     ensures { λ r. ⌜ Within (r .at) (now (out .entry)) (now (out .exit)) ⌝ }
 {
-    let batch = reclaim::reclaim(t, limit, pins);
+    let batch = maintenance_reclaim::reclaim(t, limit, pins);
     let answer = batch.answer;
     let next = batch.state;
     let slots = batch.slots;
@@ -459,7 +459,7 @@ fn run_reclaim(out: &mut [u8], at: usize, t: State, limit: usize, pins: &[u8]) -
 fn run_access(out: &mut [u8], at: usize, t: State, key: CacheKey, allow: bool, pins: &[u8]) -> Ran
     ensures { λ r. ⌜ Within (r .at) (now (out .entry)) (now (out .exit)) ⌝ }
 {
-    let accessed = load::access(t, key, allow, pins);
+    let accessed = state_access::access(t, key, allow, pins);
     let next = accessed.state;
     let answer = accessed.answer;
     Ran {
@@ -471,7 +471,7 @@ fn run_access(out: &mut [u8], at: usize, t: State, key: CacheKey, allow: bool, p
 fn run_lookup(out: &mut [u8], at: usize, t: State, key: CacheKey) -> Ran
     ensures { λ r. ⌜ Within (r .at) (now (out .entry)) (now (out .exit)) ⌝ }
 {
-    let looked = lookup::lookup(t, key);
+    let looked = state_lookup::lookup(t, key);
     let next = looked.state;
     let answer = looked.answer;
     Ran {
@@ -488,10 +488,10 @@ fn run_finished(out: &mut [u8], at: usize, case: Case) -> Ran
     let token = case.token;
     let code = case.code;
     let finished = match code {
-        3 => tokens::publish(t, token),
-        4 => tokens::abort(t, token),
-        6 => detach::remove_clean(t, case.number),
-        _ => detach::detach_clean(t, case.number),
+        3 => state_tokens::publish(t, token),
+        4 => state_tokens::abort(t, token),
+        6 => state_remove::remove_clean(t, case.number),
+        _ => state_remove::detach_clean(t, case.number),
     };
     let next = finished.state;
     let answer = finished.answer;
@@ -513,7 +513,7 @@ fn run_read(out: &mut [u8], at: usize, case: Case) -> usize
         return put_done(out, at, t.validate(token));
     }
     if code == 12 {
-        return put_found(out, at, search::peek_clean(t, key), b"found");
+        return put_found(out, at, state_search::peek_clean(t, key), b"found");
     }
     if code == 13 {
         return put_entry(out, at, case.number, t.clean_entry(case.number));

@@ -8,8 +8,8 @@ use lib.Dec.{ltb, lit<}
 use borrow.Author.Tests.{lt-ltb, ltb-true, ltb-false}
 use Rattle.basics.proofs.Tests.{is, yes!, no! }
 use Rattle.io.specs.Digits.{glyph, digits, Fewest}
-use Rattle.lines.specs.Text.{digit, digitsFrom, decimal}
-use Rattle.lines.proofs.Bytes.{last-digit, more-digits}
+use Rattle.sheet_lines.specs.Text.{digit, digitsFrom, decimal}
+use Rattle.sheet_lines.proofs.Bytes.{last-digit, more-digits}
 
 glyph-digit : (n : ℕ) → n < 10 → glyph n ≡ digit n
 glyph-digit n h = rw (lt-ltb n 10 h)

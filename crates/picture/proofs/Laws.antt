@@ -13,7 +13,7 @@ use borrow.Author.Tests.{eq-eqb, ne-eqb, leb-true, leb-false}
 use Rattle.basics.specs.Try.{if_then_else_}
 use Rattle.basics.specs.Lists.{every}
 use Rattle.basics.proofs.Tests.{is, yes!, no! }
-use Rattle.lines.specs.Text.{decimal, SPACE}
+use Rattle.sheet_lines.specs.Text.{decimal, SPACE}
 use Rattle.picture.specs.Wrote.{Wrote}
 use Rattle.picture.specs.Numbers.{spaced, allZero, placed, told, held, past}
 use Rattle.picture.specs.Table.{wordNumbers}

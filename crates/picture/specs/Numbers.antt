@@ -6,7 +6,7 @@ use lib.Dec.{eqb}
 use lib.ListN.{take, drop}
 use Rattle.basics.specs.Try.{if_then_else_}
 use Rattle.basics.specs.Lists.{every}
-use Rattle.lines.specs.Text.{decimal, SPACE}
+use Rattle.sheet_lines.specs.Text.{decimal, SPACE}
 
 -- "All numbers are decimal without leading zeros, one space before each, none at the end."
 unfoldable pub spaced : List ℕ → List ℕ

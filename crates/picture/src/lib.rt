@@ -8,7 +8,7 @@ ghost use Prim.Native.Nat.{_+_, _≤_, _<_, _^_, min};
 ghost use lib.ListN.{length, take, drop};
 ghost use lib.Dec.{leb};
 ghost use Rattle.basics.specs.Try.{if_then_else_};
-ghost use Rattle.lines.specs.Text.{decimal};
+ghost use Rattle.sheet_lines.specs.Text.{decimal};
 ghost use Rattle.picture.specs.Wrote.{Wrote};
 ghost use Rattle.picture.specs.Numbers.{spaced, allZero, placed, told, held, past};
 ghost use Rattle.picture.specs.Table.{wordNumbers, slotNumbers, entryNumbers, indexNumbers, heapNumbers, tableNumbers, indexPast, heapPast, pastNumbers};

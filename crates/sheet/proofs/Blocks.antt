@@ -12,11 +12,11 @@ use borrow.Author.Tests.{ltb-true, ltb-false, lt-ltb, le-ltb, le-leb}
 use Rattle.basics.specs.Try.{if_then_else_}
 use Rattle.basics.specs.Numbers.{MAX}
 use Rattle.basics.proofs.Tests.{is, yes!, no! }
-use Rattle.lines.specs.Words.{isBad}
-use Rattle.lines.specs.Record.{byteAt, low, inRange, fieldsOf, readRecord}
-use Rattle.steps.specs.declared.Standing.{Standing}
-use Rattle.steps.specs.Steps.{stepRecord, step}
-use Rattle.steps.specs.Standing.{start}
+use Rattle.sheet_lines.specs.Words.{isBad}
+use Rattle.sheet_lines.specs.Record.{byteAt, low, inRange, fieldsOf, readRecord}
+use Rattle.sheet_steps.specs.declared.Standing.{Standing}
+use Rattle.sheet_steps.specs.Steps.{stepRecord, step}
+use Rattle.sheet_steps.specs.Standing.{start}
 use Rattle.sheet.specs.Run.{Printed, inFront, lineAfter, orEnd, runFrom, runAll, runSheet, turns, BLOCK, ROOM, inBlocks}
 use Rattle.sheet.proofs.Runs.{no-record, no-bytes, bad-step, good-step}
 

@@ -10,11 +10,11 @@ use lib.ListN.{length, take, drop, set, getD, length-drop}
 use lib.Seq.{take-suc-set, drop-drop, drop-cons, append-snoc, take-all}
 use borrow.Author.Tests.{eq-eqb, ne-eqb, leb-true}
 use Rattle.basics.proofs.Tests.{is, yes!, no!, false-true}
-use Rattle.lines.specs.Words.{isBad}
-use Rattle.lines.specs.Record.{inRange, readRecord}
-use Rattle.steps.specs.declared.Standing.{Standing}
-use Rattle.steps.specs.declared.Stepped.{Stepped}
-use Rattle.steps.specs.Steps.{stepRecord, step}
+use Rattle.sheet_lines.specs.Words.{isBad}
+use Rattle.sheet_lines.specs.Record.{inRange, readRecord}
+use Rattle.sheet_steps.specs.declared.Standing.{Standing}
+use Rattle.sheet_steps.specs.declared.Stepped.{Stepped}
+use Rattle.sheet_steps.specs.Steps.{stepRecord, step}
 use Rattle.sheet.specs.Run.{printed, inFront, lineAfter, orEnd, runFrom}
 
 -- ---- a line, copied byte by byte

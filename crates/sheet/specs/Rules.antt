@@ -1,6 +1,6 @@
 -- One name that opens every rule up to here, for what is computed: `unfolding sheetRules`.
 use Prim.Native.Nat.{ℕ}
-use Rattle.steps.specs.Rules.{stepRules}
+use Rattle.sheet_steps.specs.Rules.{stepRules}
 use Rattle.sheet.specs.Run.{lineAfter, orEnd, runFrom, runSheet, turns, inBlocks}
 
 unfoldable pub sheetRules : ℕ

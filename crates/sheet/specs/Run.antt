@@ -6,12 +6,12 @@ use lib.Dec.{eqb, ltb}
 use lib.ListN.{length, drop, take}
 use Rattle.basics.specs.Try.{if_then_else_}
 use Rattle.basics.specs.Numbers.{MAX}
-use Rattle.steps.specs.declared.Standing.{Standing}
-use Rattle.steps.specs.declared.Stepped.{Stepped}
+use Rattle.sheet_steps.specs.declared.Standing.{Standing}
+use Rattle.sheet_steps.specs.declared.Stepped.{Stepped}
 use Rattle.sheet.specs.declared.Ran.{Ran}
-use Rattle.lines.specs.Words.{isBad, lineOf}
-use Rattle.steps.specs.Standing.{start, cleanOf, loadingOf}
-use Rattle.steps.specs.Steps.{step}
+use Rattle.sheet_lines.specs.Words.{isBad, lineOf}
+use Rattle.sheet_steps.specs.Standing.{start, cleanOf, loadingOf}
+use Rattle.sheet_steps.specs.Steps.{step}
 
 -- what stands after some records, the number of the next one, whether `bad` was printed, and what was printed
 pub record Printed : Type 0 where

@@ -4,12 +4,12 @@ ghost use mathlib.Core.List.{_++_};
 ghost use Prim.Native.Nat.{_+_, _≤_};
 ghost use lib.ListN.{length, take, drop};
 ghost use Rattle.basics.specs.Try.{if_then_else_};
-ghost use Rattle.lines.specs.Words.{lineOf, textOf};
+ghost use Rattle.sheet_lines.specs.Words.{lineOf, textOf};
 ghost use Rattle.sheet.specs.Run.{runFrom, turns as turnsRule, ranAfter};
-use lines::Line;
-use lines::Said;
-use steps::Standing;
-use steps::Stepped;
+use sheet_lines::Line;
+use sheet_lines::Said;
+use sheet_steps::Standing;
+use sheet_steps::Stepped;
 
 // What stands after a block of records, the number of the next record, how many bytes were printed, and whether `bad` ended it.
 pub struct Ran {
@@ -67,7 +67,7 @@ fn write_record(
     ensures { λ r. ⌜ length (now (out .exit)) ≡ length (now (out .entry)) ⌝ }
     ensures { λ r. ⌜ (at ≤ r) × (r ≤ at + 96) ⌝ }
 {
-    let line = lines::line_of(number, said, shown(stands, clean), shown(stands, loading));
+    let line = sheet_lines::line_of(number, said, shown(stands, clean), shown(stands, loading));
     write_line(line, out, at)
 }
 
@@ -109,7 +109,7 @@ pub fn run(standing: Standing, first: u64, bytes: &[u8], out: &mut [u8]) -> Ran
                 ended: false,
             };
         }
-        stepped = steps::step(stepped.standing, &bytes[at..]);
+        stepped = sheet_steps::step(stepped.standing, &bytes[at..]);
         let said = stepped.said;
         written = write_record(
             number,
@@ -120,7 +120,7 @@ pub fn run(standing: Standing, first: u64, bytes: &[u8], out: &mut [u8]) -> Ran
             out,
             written,
         );
-        if lines::is_bad(said) {
+        if sheet_lines::is_bad(said) {
             let last = stepped.standing;
             return Ran {
                 standing: last,
@@ -130,7 +130,7 @@ pub fn run(standing: Standing, first: u64, bytes: &[u8], out: &mut [u8]) -> Ran
             };
         }
         number += 1;
-        at += lines::RECORD;
+        at += sheet_lines::RECORD;
         left -= 1;
     }
     let last = stepped.standing;

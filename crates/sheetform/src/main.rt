@@ -6,13 +6,13 @@ ghost use mathlib.Core.Path.{_≡_};
 ghost use mathlib.Core.List.{_++_};
 ghost use Prim.Native.Nat.{_+_, _/_, _≤_};
 ghost use lib.ListN.{length, take};
-ghost use Rattle.sheetshow.specs.Form.{listedText, textOf};
+ghost use Rattle.sheet_show.specs.Form.{listedText, textOf};
 use check::same;
 use libc::STDERR_FILENO;
-use lines::Read;
-use sheetshow::Text;
-use sheettext::Fault;
-use sheettext::Parsed;
+use sheet_lines::Read;
+use sheet_show::Text;
+use sheet_text::Fault;
+use sheet_text::Parsed;
 
 // What can be wrong with a line, besides what the line says.
 const LONG: u8 = 8;
@@ -78,7 +78,7 @@ fn add_line(line: &[u8], out: &mut [u8], at: usize) -> Added
     ensures { λ r. ⌜ r .written ≤ length (now (out .exit)) ⌝ }
     ensures { λ r. ⌜ length (now (out .exit)) ≡ length (now (out .entry)) ⌝ }
 {
-    match sheettext::parse_line(line) {
+    match sheet_text::parse_line(line) {
         Parsed::Call(call) => {
             if out.len() - at < 24 {
                 return Added {
@@ -86,7 +86,7 @@ fn add_line(line: &[u8], out: &mut [u8], at: usize) -> Added
                     fault: whole(NO_ROOM),
                 };
             }
-            let bytes = sheetshow::write_record(call);
+            let bytes = sheet_show::write_record(call);
             let written = store(&bytes, out, at);
             Added {
                 written: written,
@@ -196,7 +196,7 @@ fn text_of(bytes: &[u8], out: &mut [u8]) -> Listed
     let mut written: usize = 0;
     let mut records: usize = 0;
     let mut at: usize = 0;
-    let mut left = out.len() / sheetshow::ROOM;
+    let mut left = out.len() / sheet_show::ROOM;
     while 0 < left {
         if bytes.len() <= at {
             return Listed {
@@ -205,16 +205,16 @@ fn text_of(bytes: &[u8], out: &mut [u8]) -> Listed
                 bad: false,
             };
         }
-        let Read::Whole(call) = lines::read_record(&bytes[at..]) else {
+        let Read::Whole(call) = sheet_lines::read_record(&bytes[at..]) else {
             return Listed {
                 written: written,
                 records: records,
                 bad: true,
             };
         };
-        written = store_text(sheetshow::show_record(call), out, written);
+        written = store_text(sheet_show::show_record(call), out, written);
         records += 1;
-        at += lines::RECORD;
+        at += sheet_lines::RECORD;
         left -= 1;
     }
     Listed {
@@ -234,19 +234,19 @@ fn say_number(number: u64) {
 }
 
 fn say_why(why: u8) {
-    if why == sheettext::NO_CALL {
+    if why == sheet_text::NO_CALL {
         say(b": no such call");
-    } else if why == sheettext::NO_FIELD {
+    } else if why == sheet_text::NO_FIELD {
         say(b": no such field");
-    } else if why == sheettext::NO_NUMBER {
+    } else if why == sheet_text::NO_NUMBER {
         say(b": not a number");
-    } else if why == sheettext::RANGE {
+    } else if why == sheet_text::RANGE {
         say(b": number out of range");
-    } else if why == sheettext::UNUSED {
+    } else if why == sheet_text::UNUSED {
         say(b": not used by this call");
-    } else if why == sheettext::TWICE {
+    } else if why == sheet_text::TWICE {
         say(b": given twice");
-    } else if why == sheettext::MISSING {
+    } else if why == sheet_text::MISSING {
         say(b": number missing");
     } else if why == LONG {
         say(b": longer than 256 bytes");

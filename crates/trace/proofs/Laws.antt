@@ -6,10 +6,10 @@ use mathlib.Core.Bool.{true, false}
 use mathlib.Core.List.{List, [], _∷_, _++_, append-nil}
 use lib.ListN.{length, take, drop, length-drop, drop-of-length-le}
 use Rattle.basics.proofs.Fills.{filled, fill-end}
-use Rattle.lines.specs.declared.Said.{Said}
-use Rattle.lines.specs.Text.{NEWLINE}
-use Rattle.lines.specs.Words.{isBad, lineOf}
-use Rattle.steps.specs.declared.Standing.{Standing}
+use Rattle.sheet_lines.specs.declared.Said.{Said}
+use Rattle.sheet_lines.specs.Text.{NEWLINE}
+use Rattle.sheet_lines.specs.Words.{isBad, lineOf}
+use Rattle.sheet_steps.specs.declared.Standing.{Standing}
 use Rattle.picture.specs.Numbers.{spaced}
 use Rattle.trace.specs.Record.{front, standingNumbers, recordText}
 

@@ -3,10 +3,10 @@ use Prim.Native.Nat.{ℕ, _-_}
 use mathlib.Core.List.{List, [], _∷_, _++_}
 use lib.ListN.{length, take}
 use Rattle.basics.specs.Try.{if_then_else_}
-use Rattle.lines.specs.declared.Said.{Said}
-use Rattle.lines.specs.Text.{NEWLINE}
-use Rattle.lines.specs.Words.{isBad, lineOf}
-use Rattle.steps.specs.declared.Standing.{Standing}
+use Rattle.sheet_lines.specs.declared.Said.{Said}
+use Rattle.sheet_lines.specs.Text.{NEWLINE}
+use Rattle.sheet_lines.specs.Words.{isBad, lineOf}
+use Rattle.sheet_steps.specs.declared.Standing.{Standing}
 use Rattle.picture.specs.Numbers.{spaced, past}
 use Rattle.picture.specs.Table.{wordNumbers, tableNumbers, pastNumbers}
 

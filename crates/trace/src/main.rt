@@ -2,13 +2,13 @@
 // which `rust_sheet --trace` writes of the original. A read or a write that fails ends it.
 ghost use mathlib.Core.Path.{_≡_};
 ghost use lib.ListN.{length, drop};
-ghost use Rattle.lines.specs.Words.{textOf};
+ghost use Rattle.sheet_lines.specs.Words.{textOf};
 ghost use Rattle.picture.specs.Wrote.{Wrote};
 ghost use Rattle.trace.specs.Record.{front, standingNumbers, recordText};
 ghost use Rattle.picture.specs.Numbers.{spaced};
-use lines::Line;
-use lines::Said;
-use steps::Standing;
+use sheet_lines::Line;
+use sheet_lines::Said;
+use sheet_steps::Standing;
 
 // What stands after a block of records, and whether there is an end: a bad record, or a write that failed.
 struct Ran {
@@ -78,9 +78,9 @@ fn put_record(out: &mut [u8], at: usize, number: u64, said: Said, s: Standing) -
     ensures { λ r. ⌜ Wrote (now (out .entry)) at (recordText number said s) r (now (out .exit)) ⌝ }
 {
     let t = s.state;
-    let line = lines::line_of(number, said, t.clean, t.loading);
+    let line = sheet_lines::line_of(number, said, t.clean, t.loading);
     let a = put_line(out, at, line);
-    if lines::is_bad(said) {
+    if sheet_lines::is_bad(said) {
         return picture::put_text(out, a, b"\n");
     }
     let b = put_standing(out, a, s);
@@ -96,11 +96,11 @@ fn run(standing: Standing, first: u64, bytes: &[u8], out: &mut [u8]) -> Ran
     let mut written: usize = 0;
     let mut at: usize = 0;
     while at < bytes.len() {
-        let stepped = steps::step(s, &bytes[at..]);
+        let stepped = sheet_steps::step(s, &bytes[at..]);
         let said = stepped.said;
         s = stepped.standing;
         written = put_record(out, written, number, said, s);
-        if lines::is_bad(said) {
+        if sheet_lines::is_bad(said) {
             picture::flush(out, written, 0);
             return Ran {
                 standing: s,
@@ -118,7 +118,7 @@ fn run(standing: Standing, first: u64, bytes: &[u8], out: &mut [u8]) -> Ran
         }
         written = waits.count;
         number = basics::one_more(number);
-        at += picture::least(bytes.len() - at, lines::RECORD);
+        at += picture::least(bytes.len() - at, sheet_lines::RECORD);
     }
     let last = picture::flush(out, written, 0);
     Ran {
@@ -130,7 +130,7 @@ fn run(standing: Standing, first: u64, bytes: &[u8], out: &mut [u8]) -> Ran
 
 // The records of all blocks, each of as many bytes as there is room for.
 fn run_all(bytes: &mut [u8], out: &mut [u8]) {
-    let mut standing = steps::start();
+    let mut standing = sheet_steps::start();
     let mut number: u64 = 0;
     let mut blocks: u64 = basics::MAX;
     while 0 < blocks {

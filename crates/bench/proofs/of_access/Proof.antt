@@ -4,39 +4,9 @@ use borrow.Author.Needs.{needs}
 use Rattle.bench.proofs.of_access.Statement.{statement}
 use Rattle.bench.proofs.of_access.Tie as tie
 
-enum-known-answer : tie.Need-enum-known-answer
-enum-known-answer c = search needs
-
-word-requires : tie.Need-word-requires
-word-requires c κs = search needs
-
-enum-told : tie.Need-enum-told
-enum-told c = search needs
-
-enum-known-answer-2 : tie.Need-enum-known-answer-2
-enum-known-answer-2 c = search needs
-
-wide-requires : tie.Need-wide-requires
-wide-requires c κs = search needs
-
-word-requires-2 : tie.Need-word-requires-2
-word-requires-2 c κs = search needs
-
 returns : tie.Need-returns
 unfolding accessNumber
 returns c = rw (c .word2 .ensures, c .before .before .wide .ensures, c .before .before .before .before .answer2 .given .1, c .before .if1 .taken)
-
-word-requires-3 : tie.Need-word-requires-3
-word-requires-3 c κs = search needs
-
-enum-told-2 : tie.Need-enum-told-2
-enum-told-2 c = search needs
-
-enum-known-answer-3 : tie.Need-enum-known-answer-3
-enum-known-answer-3 c = search needs
-
-cast-result : tie.Need-cast-result
-cast-result c = search needs
 
 returns-2 : tie.Need-returns-2
 unfolding accessNumber
@@ -62,17 +32,17 @@ pub of-access-spec : {M : Type 1} → statement M
 of-access-spec =
     tie.close
     (tie.spec
-    enum-known-answer
-    word-requires
-    enum-told
-    enum-known-answer-2
-    wide-requires
-    word-requires-2
+    (λ c. search needs)
+    (λ c κs. search needs)
+    (λ c. search needs)
+    (λ c. search needs)
+    (λ c κs. search needs)
+    (λ c κs. search needs)
     returns
-    word-requires-3
-    enum-told-2
-    enum-known-answer-3
-    cast-result
+    (λ c κs. search needs)
+    (λ c. search needs)
+    (λ c. search needs)
+    (λ c. search needs)
     returns-2
     returns-3
     returns-4

@@ -4,15 +4,6 @@ use borrow.Author.Needs.{needs}
 use Rattle.bench.proofs.of_done.Statement.{statement}
 use Rattle.bench.proofs.of_done.Tie as tie
 
-enum-told : tie.Need-enum-told
-enum-told c = search needs
-
-enum-known-answer : tie.Need-enum-known-answer
-enum-known-answer c = search needs
-
-cast-result : tie.Need-cast-result
-cast-result c = search needs
-
 returns : tie.Need-returns
 unfolding doneNumber
 returns c = rw (c .enum-told .given .1)
@@ -22,4 +13,4 @@ unfolding doneNumber
 returns-2 c = rw (c .before .answer .given .1)
 
 pub of-done-spec : {M : Type 1} → statement M
-of-done-spec = tie.close (tie.spec enum-told enum-known-answer cast-result returns returns-2)
+of-done-spec = tie.close (tie.spec (λ c. search needs) (λ c. search needs) (λ c. search needs) returns returns-2)

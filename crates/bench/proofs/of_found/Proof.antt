@@ -4,21 +4,6 @@ use borrow.Author.Needs.{needs}
 use Rattle.bench.proofs.of_found.Statement.{statement}
 use Rattle.bench.proofs.of_found.Tie as tie
 
-enum-known-answer : tie.Need-enum-known-answer
-enum-known-answer c = search needs
-
-word-requires : tie.Need-word-requires
-word-requires c κs = search needs
-
-enum-told : tie.Need-enum-told
-enum-told c = search needs
-
-enum-known-answer-2 : tie.Need-enum-known-answer-2
-enum-known-answer-2 c = search needs
-
-cast-result : tie.Need-cast-result
-cast-result c = search needs
-
 returns : tie.Need-returns
 unfolding foundNumber
 returns c = rw (c .word .ensures, c .before .before .answer .given .1)
@@ -35,11 +20,11 @@ pub of-found-spec : {M : Type 1} → statement M
 of-found-spec =
     tie.close
     (tie.spec
-    enum-known-answer
-    word-requires
-    enum-told
-    enum-known-answer-2
-    cast-result
+    (λ c. search needs)
+    (λ c κs. search needs)
+    (λ c. search needs)
+    (λ c. search needs)
+    (λ c. search needs)
     returns
     returns-2
     returns-3)

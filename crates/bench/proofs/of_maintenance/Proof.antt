@@ -4,24 +4,6 @@ use borrow.Author.Needs.{needs}
 use Rattle.bench.proofs.of_maintenance.Statement.{statement}
 use Rattle.bench.proofs.of_maintenance.Tie as tie
 
-enum-told : tie.Need-enum-told
-enum-told c = search needs
-
-enum-told-2 : tie.Need-enum-told-2
-enum-told-2 c = search needs
-
-enum-known-answer : tie.Need-enum-known-answer
-enum-known-answer c = search needs
-
-word-requires : tie.Need-word-requires
-word-requires c κs = search needs
-
-enum-known-answer-2 : tie.Need-enum-known-answer-2
-enum-known-answer-2 c = search needs
-
-cast-result : tie.Need-cast-result
-cast-result c = search needs
-
 returns : tie.Need-returns
 unfolding sizeNumber
 returns c = rw (c .enum-told .given .1)
@@ -42,12 +24,12 @@ pub of-maintenance-spec : {M : Type 1} → statement M
 of-maintenance-spec =
     tie.close
     (tie.spec
-    enum-told
-    enum-told-2
-    enum-known-answer
-    word-requires
-    enum-known-answer-2
-    cast-result
+    (λ c. search needs)
+    (λ c. search needs)
+    (λ c. search needs)
+    (λ c κs. search needs)
+    (λ c. search needs)
+    (λ c. search needs)
     returns
     returns-2
     returns-3

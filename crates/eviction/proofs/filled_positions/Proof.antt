@@ -18,18 +18,6 @@ abbrev μ-loop : tie.MeasureT-loop
 loop-holds : tie.Need-loop-holds Inv-loop μ-loop
 loop-holds c = (omega arith, refl)
 
-mul-positions : tie.Need-mul-positions Inv-loop μ-loop
-mul-positions c = search needs
-
-array-write-positions : tie.Need-array-write-positions Inv-loop μ-loop
-array-write-positions c = search needs
-
-add-i : tie.Need-add-i Inv-loop μ-loop
-add-i c = search needs
-
-loop-less : tie.Need-loop-less Inv-loop μ-loop
-loop-less c = search needs
-
 loop-again : tie.Need-loop-again Inv-loop μ-loop
 loop-again c = (omega arith, ap (λ l. set l (c .before .loop .i) NONE) (c .before .loop .inv .1) ∙ same-turn 256 (c .before .before .args .n) (c .before .loop .i) NONE (c .loop-test .taken) (c .before .before .pre))
 
@@ -43,9 +31,9 @@ filled-positions-spec =
     Inv-loop
     μ-loop
     loop-holds
-    mul-positions
-    array-write-positions
-    add-i
-    loop-less
+    (λ c. search needs)
+    (λ c. search needs)
+    (λ c. search needs)
+    (λ c. search needs)
     loop-again
     returns)

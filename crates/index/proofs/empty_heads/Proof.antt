@@ -18,18 +18,6 @@ abbrev μ-loop : tie.MeasureT-loop
 loop-holds : tie.Need-loop-holds Inv-loop μ-loop
 loop-holds c = (omega arith, refl)
 
-mul-heads : tie.Need-mul-heads Inv-loop μ-loop
-mul-heads c = search needs
-
-array-write-heads : tie.Need-array-write-heads Inv-loop μ-loop
-array-write-heads c = search needs
-
-add-i : tie.Need-add-i Inv-loop μ-loop
-add-i c = search needs
-
-loop-less : tie.Need-loop-less Inv-loop μ-loop
-loop-less c = search needs
-
 loop-again : tie.Need-loop-again Inv-loop μ-loop
 loop-again c = (omega arith, ap (λ l. set l (c .before .loop .i) NONE) (c .before .loop .inv .1) ∙ same-turn 512 _ _ NONE (c .loop-test .taken) (c .before .before .pre))
 
@@ -43,9 +31,9 @@ empty-heads-spec =
     Inv-loop
     μ-loop
     loop-holds
-    mul-heads
-    array-write-heads
-    add-i
-    loop-less
+    (λ c. search needs)
+    (λ c. search needs)
+    (λ c. search needs)
+    (λ c. search needs)
     loop-again
     returns)

@@ -18,18 +18,6 @@ abbrev μ-loop : tie.MeasureT-loop
 loop-holds : tie.Need-loop-holds Inv-loop μ-loop
 loop-holds c = (omega arith, refl)
 
-mul-next : tie.Need-mul-next Inv-loop μ-loop
-mul-next c = search needs
-
-array-write-next : tie.Need-array-write-next Inv-loop μ-loop
-array-write-next c = search needs
-
-add-i : tie.Need-add-i Inv-loop μ-loop
-add-i c = search needs
-
-loop-less : tie.Need-loop-less Inv-loop μ-loop
-loop-less c = search needs
-
 loop-again : tie.Need-loop-again Inv-loop μ-loop
 loop-again c = (omega arith, ap (λ l. set l (c .before .loop .i) NONE) (c .before .loop .inv .1) ∙ same-turn 256 _ _ NONE (c .loop-test .taken) (c .before .before .pre))
 
@@ -43,9 +31,9 @@ empty-next-spec =
     Inv-loop
     μ-loop
     loop-holds
-    mul-next
-    array-write-next
-    add-i
-    loop-less
+    (λ c. search needs)
+    (λ c. search needs)
+    (λ c. search needs)
+    (λ c. search needs)
     loop-again
     returns)

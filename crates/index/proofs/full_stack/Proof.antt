@@ -18,27 +18,6 @@ abbrev μ-loop : tie.MeasureT-loop
 loop-holds : tie.Need-loop-holds Inv-loop μ-loop
 loop-holds c = (omega arith, refl)
 
-sub-free : tie.Need-sub-free Inv-loop μ-loop
-sub-free c = search needs
-
-sub-free-2 : tie.Need-sub-free-2 Inv-loop μ-loop
-sub-free-2 c = search needs
-
-cast-free : tie.Need-cast-free Inv-loop μ-loop
-cast-free c = search needs
-
-mul-free : tie.Need-mul-free Inv-loop μ-loop
-mul-free c = search needs
-
-array-write-free : tie.Need-array-write-free Inv-loop μ-loop
-array-write-free c = search needs
-
-add-i : tie.Need-add-i Inv-loop μ-loop
-add-i c = search needs
-
-loop-less : tie.Need-loop-less Inv-loop μ-loop
-loop-less c = search needs
-
 loop-again : tie.Need-loop-again Inv-loop μ-loop
 loop-again c = (omega arith, ap (λ l. set l (c .before .loop .i) (c .before .before .args .capacity - 1 - c .before .loop .i)) (c .before .loop .inv .1) ∙ down-turn 256 _ _ _ (c .loop-test .taken) (c .before .before .pre) refl)
 
@@ -52,12 +31,12 @@ full-stack-spec =
     Inv-loop
     μ-loop
     loop-holds
-    sub-free
-    sub-free-2
-    cast-free
-    mul-free
-    array-write-free
-    add-i
-    loop-less
+    (λ c. search needs)
+    (λ c. search needs)
+    (λ c. search needs)
+    (λ c. search needs)
+    (λ c. search needs)
+    (λ c. search needs)
+    (λ c. search needs)
     loop-again
     returns)

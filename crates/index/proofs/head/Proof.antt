@@ -5,20 +5,8 @@ use borrow.Author.Needs.{needs}
 use Rattle.index.proofs.head.Statement.{statement}
 use Rattle.index.proofs.head.Tie as tie
 
-bucket-requires : tie.Need-bucket-requires
-bucket-requires c κs = search needs
-
 returns : tie.Need-returns
 returns c = rw (← c .before .bucket .ensures) (sym (List·getD-eq-default (c .before .before .before .args .heads .now) 0 (c .if1 .taken)))
-
-mul-wide : tie.Need-mul-wide
-mul-wide c = search needs
-
-shared-slice-read-wide : tie.Need-shared-slice-read-wide
-shared-slice-read-wide c = search needs
-
-wide-requires : tie.Need-wide-requires
-wide-requires c κs = search needs
 
 returns-2 : tie.Need-returns-2
 returns-2 c = rw (c .wide .ensures, c .before .before .before .bucket .ensures)
@@ -26,4 +14,4 @@ returns-2 c = rw (c .wide .ensures, c .before .before .before .bucket .ensures)
 pub head-spec : {M : Type 1} → statement M
 head-spec =
     tie.close
-    (tie.spec bucket-requires returns mul-wide shared-slice-read-wide wide-requires returns-2)
+    (tie.spec (λ c κs. search needs) returns (λ c. search needs) (λ c. search needs) (λ c κs. search needs) returns-2)

@@ -8,18 +8,6 @@ use Rattle.index.proofs.next_in_chain.Tie as tie
 returns : tie.Need-returns
 returns c = sym (List·getD-eq-default (c .before .before .args .next .now) 0 (c .if1 .taken))
 
-mul-wide : tie.Need-mul-wide
-mul-wide c = search needs
-
-shared-slice-read-wide : tie.Need-shared-slice-read-wide
-shared-slice-read-wide c = search needs
-
-wide-requires : tie.Need-wide-requires
-wide-requires c κs = search needs
-
-returns-2 : tie.Need-returns-2
-returns-2 c = search needs
-
 pub next-in-chain-spec : {M : Type 1} → statement M
 next-in-chain-spec =
-    tie.close (tie.spec returns mul-wide shared-slice-read-wide wide-requires returns-2)
+    tie.close (tie.spec returns (λ c. search needs) (λ c. search needs) (λ c κs. search needs) (λ c. search needs))

@@ -52,17 +52,8 @@ counted : (c : ℕ) {d : Done} {n : ℕ} → doneAnswer d ≡ needCapacity c →
 unfolding countFor
 counted c e q w = rw (← e, q, w)
 
-check-capacity-requires : tie.Need-check-capacity-requires
-check-capacity-requires c κs = search needs
-
-enum-known-checked : tie.Need-enum-known-checked
-enum-known-checked c = search needs
-
 returns : tie.Need-returns
 returns c = refused _ (c .before .before .before .check-capacity .ensures) (c .before .checked .given .1)
-
-enum-told : tie.Need-enum-told
-enum-told c = search needs
 
 sub-at : tie.Need-sub-at
 sub-at c = let f = fits (c .before .before .check-capacity .ensures) (c .enum-told .given .1) in omega arith
@@ -82,10 +73,10 @@ pub bucket-count-spec : {M : Type 1} → statement M
 bucket-count-spec =
     tie.close
     (tie.spec
-    check-capacity-requires
-    enum-known-checked
+    (λ c κs. search needs)
+    (λ c. search needs)
     returns
-    enum-told
+    (λ c. search needs)
     sub-at
     mul-t6
     array-read-t9

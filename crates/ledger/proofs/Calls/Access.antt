@@ -20,10 +20,10 @@ use Rattle.state.specs.declared.LoadToken.{LoadToken}
 use Rattle.state.specs.Slots.{slotAt}
 use Rattle.state.specs.Answers.{Given, hit, inProgress, reserved, evicted, busy, After, unlessRefused}
 use Rattle.state.specs.Access as rules
-use Rattle.invariant.proofs.SlotKinds.{clean-not-loading, vacant-neither}
-use Rattle.invariant.proofs.TableParts.{sound-inv}
-use Rattle.invariant.proofs.KeySearch.{absent!, waits!, hit!, spent!, sought}
-use Rattle.invariant.proofs.Misses.{Missed, barred!, full!, pinned!, takes!, evicts!, spent-generation!, spent-use!, missed}
+use Rattle.laws_table.proofs.SlotKinds.{clean-not-loading, vacant-neither}
+use Rattle.laws_table.proofs.TableParts.{sound-inv}
+use Rattle.laws_table.proofs.KeySearch.{absent!, waits!, hit!, spent!, sought}
+use Rattle.laws_table.proofs.Misses.{Missed, barred!, full!, pinned!, takes!, evicts!, spent-generation!, spent-use!, missed}
 use Rattle.ledger.specs.Ledger.{Held, Ledger, feedAccess}
 use Rattle.ledger.specs.Expect.{unpinned, cleanOnes, oldest, expect}
 use Rattle.ledger.specs.Claim.{Gives}

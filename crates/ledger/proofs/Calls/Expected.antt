@@ -26,8 +26,8 @@ use Rattle.state.specs.Slots.{slotAt, occupied}
 use Rattle.state.specs.Answers.{hit, inProgress, reserved, evicted, busy}
 use Rattle.state.specs.Victim.{PLACES}
 use Rattle.state.specs.Access as rules
-use Rattle.invariant.proofs.TableParts.{slots-sum, clean-len}
-use Rattle.invariant.proofs.StepReserve.{chainOf}
+use Rattle.laws_table.proofs.TableParts.{slots-sum, clean-len}
+use Rattle.laws_table.proofs.StepReserve.{chainOf}
 use Rattle.ledger.specs.Ledger.{Held, Ledger, nextToken}
 use Rattle.ledger.specs.Expect.{SHARE, PINNED, unpinned, cleanOnes, oldest, sharing, exactly, vacancy, expectVictim, expectKey, expect}
 use Rattle.ledger.specs.Claim.{Gives}

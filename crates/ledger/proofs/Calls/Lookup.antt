@@ -7,8 +7,8 @@ use Rattle.state.specs.declared.State.{State}
 use Rattle.state.specs.declared.Counters.{Counters}
 use Rattle.state.specs.Parts.{withCounters}
 use Rattle.state.specs.Lookup as rules
-use Rattle.invariant.proofs.TableParts.{sound-inv}
-use Rattle.invariant.proofs.KeySearch.{absent!, waits!, hit!, spent!, sought}
+use Rattle.laws_table.proofs.TableParts.{sound-inv}
+use Rattle.laws_table.proofs.KeySearch.{absent!, waits!, hit!, spent!, sought}
 use Rattle.ledger.specs.Ledger.{Ledger, feedLookup}
 use Rattle.ledger.proofs.Relation.Agree.{Agree, agree-dated}
 use Rattle.ledger.proofs.Relation.Steps.{agree-used}

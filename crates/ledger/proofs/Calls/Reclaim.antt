@@ -8,11 +8,11 @@ use lib.ListN.{length, replicate}
 use Rattle.basics.specs.Numbers.{NONE}
 use Rattle.basics.specs.Lists.{some?}
 use Rattle.state.specs.declared.State.{State}
-use Rattle.reclaim.specs.Reclaim as rules
-use Rattle.reclaim.specs.Reclaim.{BATCH}
-use Rattle.maintenance_laws.specs.Reclaim.{Removals, none-yet!, one-more!, refused!, reclaimed! }
-use Rattle.maintenance_laws.proofs.Lists.{some-end, take-front}
-use Rattle.maintenance_laws.proofs.ReclaimLaw.{reclaim-law}
+use Rattle.maintenance_reclaim.specs.Reclaim as rules
+use Rattle.maintenance_reclaim.specs.Reclaim.{BATCH}
+use Rattle.laws_maintenance.specs.Reclaim.{Removals, none-yet!, one-more!, refused!, reclaimed! }
+use Rattle.laws_maintenance.proofs.Lists.{some-end, take-front}
+use Rattle.laws_maintenance.proofs.ReclaimLaw.{reclaim-law}
 use Rattle.ledger.specs.Ledger.{Held, Ledger, withHeld, notAt, feedReclaim}
 use Rattle.ledger.proofs.Keys.Lists.{keep-all, keep-keep}
 use Rattle.ledger.proofs.Keys.Slots.{notIn, not-at}

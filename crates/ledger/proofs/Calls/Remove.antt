@@ -4,7 +4,7 @@ use Rattle.basics.specs.Answers.{Fine}
 use Rattle.state.specs.declared.State.{State}
 use Rattle.state.specs.Answers.{After}
 use Rattle.state.specs.Remove as rules
-use Rattle.invariant.proofs.StepLeave.{Left, no-slot!, unclean!, left!, detached, removed}
+use Rattle.laws_table.proofs.StepLeave.{Left, no-slot!, unclean!, left!, detached, removed}
 use Rattle.ledger.specs.Ledger.{Ledger, feedRemove}
 use Rattle.ledger.proofs.Relation.Agree.{Agree}
 use Rattle.ledger.proofs.Relation.Steps.{agree-left}

@@ -18,14 +18,14 @@ use Rattle.key.proofs.Keys.{same-key}
 use Rattle.state.specs.declared.State.{State}
 use Rattle.state.specs.Slots.{slotAt, isClean, occupied}
 use Rattle.state.specs.Fresh.{fresh}
-use Rattle.maintenance.specs.Answers.{resized, Resizing}
-use Rattle.maintenance.specs.Pins.{raised}
-use Rattle.maintenance.specs.Resize as rules
-use Rattle.invariant.proofs.SlotKinds.{clean-occupied}
-use Rattle.maintenance_laws.specs.Remade.{kept!, lost!, Remade}
-use Rattle.maintenance_laws.specs.Resize.{refused!, unchanged!, busy!, emptied!, remade! }
-use Rattle.maintenance_laws.proofs.CalmTables.{none-loads, calm-clean}
-use Rattle.maintenance_laws.proofs.ResizeLaw.{resize-law}
+use Rattle.maintenance_resize.specs.Answers.{resized, Resizing}
+use Rattle.maintenance_resize.specs.Pins.{raised}
+use Rattle.maintenance_resize.specs.Resize as rules
+use Rattle.laws_table.proofs.SlotKinds.{clean-occupied}
+use Rattle.laws_maintenance.specs.Remade.{kept!, lost!, Remade}
+use Rattle.laws_maintenance.specs.Resize.{refused!, unchanged!, busy!, emptied!, remade! }
+use Rattle.laws_maintenance.proofs.CalmTables.{none-loads, calm-clean}
+use Rattle.laws_maintenance.proofs.ResizeLaw.{resize-law}
 use Rattle.ledger.specs.Ledger.{Held, Ledger, begin, stays, movedOne, remakes, remakesOrAnew, feedResize}
 use Rattle.ledger.specs.Expect.{unpinned, sameUse, present, resizeKeeps}
 use Rattle.ledger.proofs.Keys.Lists.{some-in, every-in}

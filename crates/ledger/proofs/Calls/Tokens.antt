@@ -12,9 +12,9 @@ use Rattle.state.specs.declared.State.{State}
 use Rattle.state.specs.declared.LoadToken.{LoadToken}
 use Rattle.state.specs.Slots.{slotAt}
 use Rattle.state.specs.Tokens as rules
-use Rattle.invariant.proofs.SlotKinds.{loading-occupied, loading-not-clean}
-use Rattle.invariant.proofs.TableParts.{sound-inv}
-use Rattle.invariant.proofs.StepTokens.{outstanding-loads, loads-outstanding, publish-step, abort-step}
+use Rattle.laws_table.proofs.SlotKinds.{loading-occupied, loading-not-clean}
+use Rattle.laws_table.proofs.TableParts.{sound-inv}
+use Rattle.laws_table.proofs.StepTokens.{outstanding-loads, loads-outstanding, publish-step, abort-step}
 use Rattle.ledger.specs.Ledger.{Ledger, feedPublish, feedAbort}
 use Rattle.ledger.specs.Expect.{wasGiven, outstanding, expectEnd}
 use Rattle.ledger.proofs.Keys.Tokens.{amid, away, among}

@@ -14,10 +14,10 @@ use Rattle.state.specs.declared.State.{State}
 use Rattle.state.specs.declared.LoadToken.{LoadToken}
 use Rattle.state.specs.Slots.{slotAt, isLoading, isClean, occupied}
 use Rattle.state.specs.Fresh.{empty, fresh}
-use Rattle.invariant.specs.Table.{Inv, Distinct, Dated, Valid, Absent}
-use Rattle.invariant.proofs.SlotKinds.{vacant-free, clean-occupied, clean-not-loading, loading-occupied, loading-not-clean}
-use Rattle.invariant.proofs.StepTokens.{Loads}
-use Rattle.invariant.proofs.FreshTable.{fresh-inv, fresh-slot}
+use Rattle.laws_table.specs.Table.{Inv, Distinct, Dated, Valid, Absent}
+use Rattle.laws_table.proofs.SlotKinds.{vacant-free, clean-occupied, clean-not-loading, loading-occupied, loading-not-clean}
+use Rattle.laws_table.proofs.StepTokens.{Loads}
+use Rattle.laws_table.proofs.FreshTable.{fresh-inv, fresh-slot}
 use Rattle.ledger.specs.Ledger.{Held, Ledger, begin}
 use Rattle.ledger.proofs.Keys.Apart.{one-key}
 use Rattle.ledger.proofs.Keys.Slots.{at, at-in, in-at}

@@ -18,9 +18,9 @@ use Rattle.state.specs.declared.Slot.{Slot}
 use Rattle.state.specs.declared.State.{State}
 use Rattle.state.specs.Slots.{slotAt, isLoading, isClean, occupied}
 use Rattle.key.proofs.Buckets.{bucket-low}
-use Rattle.invariant.proofs.SlotKinds.{one-kind}
-use Rattle.invariant.proofs.StepReserve.{chainOf}
-use Rattle.invariant.proofs.KeySearch.{in-chain, chain-in}
+use Rattle.laws_table.proofs.SlotKinds.{one-kind}
+use Rattle.laws_table.proofs.StepReserve.{chainOf}
+use Rattle.laws_table.proofs.KeySearch.{in-chain, chain-in}
 use Rattle.ledger.specs.Ledger.{Held, Ledger}
 use Rattle.ledger.specs.Expect.{sharing}
 use Rattle.ledger.proofs.Keys.Apart.{apart-keep, slotsOf, once-slots}

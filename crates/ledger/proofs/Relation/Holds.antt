@@ -12,7 +12,7 @@ use Rattle.basics.specs.Lists.{every}
 use Rattle.key.specs.Key.{sameKey}
 use Rattle.state.specs.declared.State.{State}
 use Rattle.state.specs.Slots.{slotAt, vacantSlot}
-use Rattle.invariant.proofs.SlotKinds.{clean-not-loading, vacant-neither}
+use Rattle.laws_table.proofs.SlotKinds.{clean-not-loading, vacant-neither}
 use Rattle.ledger.specs.Ledger.{Held, Ledger}
 use Rattle.ledger.specs.Claim.{shown, shownHeld, slotsFrom, distinct, Holds}
 use Rattle.ledger.proofs.Keys.Lists.{true-T, every-in, alike, unlike, compared}

@@ -17,9 +17,9 @@ use Rattle.eviction.specs.Entries.{at, posOf}
 use Rattle.state.specs.declared.State.{State}
 use Rattle.state.specs.Slots.{slotAt}
 use Rattle.state.specs.Victim.{PLACES}
-use Rattle.invariant.specs.Heap.{rank, rankAt}
-use Rattle.invariant.proofs.Ranks.{root-places}
-use Rattle.invariant.proofs.TableParts.{heapSlots, heap-length, heap-once, at-place, place-of, clean-len}
+use Rattle.laws_table.specs.Heap.{rank, rankAt}
+use Rattle.laws_table.proofs.Ranks.{root-places}
+use Rattle.laws_table.proofs.TableParts.{heapSlots, heap-length, heap-once, at-place, place-of, clean-len}
 use Rattle.ledger.specs.Ledger.{Held, Ledger}
 use Rattle.ledger.specs.Expect.{unpinned, cleanOnes, olderOf, oldest}
 use Rattle.ledger.proofs.Keys.Lists.{any, nil, any-is}

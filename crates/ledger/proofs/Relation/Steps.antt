@@ -18,9 +18,9 @@ use Rattle.state.specs.declared.Slot.{Slot}
 use Rattle.state.specs.declared.State.{State}
 use Rattle.state.specs.declared.LoadToken.{LoadToken}
 use Rattle.state.specs.Slots.{slotAt, vacantSlot, loadingSlot, cleanSlot, isLoading, isClean}
-use Rattle.invariant.specs.Table.{Step}
-use Rattle.invariant.proofs.SlotKinds.{vacant-free, clean-not-loading, loading-not-clean, loading-occupied}
-use Rattle.invariant.proofs.StepTokens.{Loads}
+use Rattle.laws_table.specs.Table.{Step}
+use Rattle.laws_table.proofs.SlotKinds.{vacant-free, clean-not-loading, loading-not-clean, loading-occupied}
+use Rattle.laws_table.proofs.StepTokens.{Loads}
 use Rattle.ledger.specs.Ledger.{Held, Ledger, withHeld, nextToken, reserves, notAt, usedOne, uses, ends, cleanOne, notKey}
 use Rattle.ledger.proofs.Keys.Lists.{keep-all}
 use Rattle.ledger.proofs.Keys.Slots.{at, at-in, at-cons, notIn, not-at, at-keep, not-key, at-one}

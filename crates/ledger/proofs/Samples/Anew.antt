@@ -6,7 +6,7 @@ use Rattle.basics.specs.Try.{ok}
 use Rattle.basics.specs.Answers.{done}
 use Rattle.state.specs.Answers.{reserved}
 use Rattle.state.specs.Fresh.{fresh}
-use Rattle.maintenance.specs.Answers as Size
+use Rattle.maintenance_resize.specs.Answers as Size
 use Rattle.ledger.specs.Calls.{rules, Call, access, publish, abort, resize, accessed, published, aborted, resized, run, log}
 use Rattle.ledger.specs.Ledger.{begin}
 use Rattle.ledger.specs.Claim.{Holds, FairAll, ledgerOf}

@@ -10,12 +10,6 @@ use Rattle.picture.proofs.digits.Tie as tie
 decimal-requires : tie.Need-decimal-requires
 decimal-requires c κs = tt
 
-array-share-prefix-text : tie.Need-array-share-prefix-text
-array-share-prefix-text c = search needs
-
-slice-aggregate-put-text : tie.Need-slice-aggregate-put-text
-slice-aggregate-put-text c = search needs
-
 put-text-requires : tie.Need-put-text-requires
 put-text-requires c κs = tt
 
@@ -30,8 +24,8 @@ digits-spec =
     tie.close
     (tie.spec
     decimal-requires
-    array-share-prefix-text
-    slice-aggregate-put-text
+    (λ c. search needs)
+    (λ c. search needs)
     put-text-requires
     same-length
     returns)

@@ -5,9 +5,6 @@ use Rattle.picture.proofs.Laws.{joined, wrote-as, spaced-one}
 use Rattle.picture.proofs.put.Statement.{statement}
 use Rattle.picture.proofs.put.Tie as tie
 
-slice-aggregate-put-text : tie.Need-slice-aggregate-put-text
-slice-aggregate-put-text c = search needs
-
 put-text-requires : tie.Need-put-text-requires
 put-text-requires c κs = tt
 
@@ -23,4 +20,4 @@ returns c = wrote-as (spaced-one (c .before .before .before .before .before .bef
 pub put-spec : {M : Type 1} → statement M
 put-spec =
     tie.close
-    (tie.spec slice-aggregate-put-text put-text-requires digits-requires same-length returns)
+    (tie.spec (λ c. search needs) put-text-requires digits-requires same-length returns)

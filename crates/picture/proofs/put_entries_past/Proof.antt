@@ -11,9 +11,6 @@ use mathlib.Core.Bool.{false}
 use Rattle.picture.proofs.put_entries_past.Statement.{statement}
 use Rattle.picture.proofs.put_entries_past.Tie as tie
 
-slice-aggregate-walk-entries : tie.Need-slice-aggregate-walk-entries
-slice-aggregate-walk-entries c = search needs
-
 walk-entries-requires : tie.Need-walk-entries-requires
 walk-entries-requires c κs = tt
 
@@ -39,7 +36,7 @@ pub put-entries-past-spec : {M : Type 1} → statement M
 put-entries-past-spec =
     tie.close
     (tie.spec
-    slice-aggregate-walk-entries
+    (λ c. search needs)
     walk-entries-requires
     put-requires
     same-length

@@ -13,9 +13,6 @@ put-requires c κs = tt
 walk-entries-requires : tie.Need-walk-entries-requires
 walk-entries-requires c κs = tt
 
-slice-aggregate-put-words : tie.Need-slice-aggregate-put-words
-slice-aggregate-put-words c = search needs
-
 put-words-requires : tie.Need-put-words-requires
 put-words-requires c κs = tt
 
@@ -29,4 +26,4 @@ returns c = numbers-joined _ _ (c .before .before .before .before .before .befor
 pub put-heap-spec : {M : Type 1} → statement M
 put-heap-spec =
     tie.close
-    (tie.spec put-requires walk-entries-requires slice-aggregate-put-words put-words-requires same-length returns)
+    (tie.spec put-requires walk-entries-requires (λ c. search needs) put-words-requires same-length returns)

@@ -9,9 +9,6 @@ use Rattle.picture.proofs.put_heap_past.Tie as tie
 put-entries-past-requires : tie.Need-put-entries-past-requires
 put-entries-past-requires c κs = tt
 
-slice-aggregate-put-words-past : tie.Need-slice-aggregate-put-words-past
-slice-aggregate-put-words-past c = search needs
-
 put-words-past-requires : tie.Need-put-words-past-requires
 put-words-past-requires c κs = tt
 
@@ -27,7 +24,7 @@ put-heap-past-spec =
     tie.close
     (tie.spec
     put-entries-past-requires
-    slice-aggregate-put-words-past
+    (λ c. search needs)
     put-words-past-requires
     same-length
     returns)

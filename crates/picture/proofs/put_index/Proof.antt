@@ -9,23 +9,14 @@ use Rattle.picture.proofs.put_index.Tie as tie
 put-requires : tie.Need-put-requires
 put-requires c κs = tt
 
-slice-aggregate-put-words : tie.Need-slice-aggregate-put-words
-slice-aggregate-put-words c = search needs
-
 put-words-requires : tie.Need-put-words-requires
 put-words-requires c κs = tt
-
-slice-aggregate-put-words-2 : tie.Need-slice-aggregate-put-words-2
-slice-aggregate-put-words-2 c = search needs
 
 put-words-requires-2 : tie.Need-put-words-requires-2
 put-words-requires-2 c κs = tt
 
 put-requires-2 : tie.Need-put-requires-2
 put-requires-2 c κs = tt
-
-slice-aggregate-put-words-3 : tie.Need-slice-aggregate-put-words-3
-slice-aggregate-put-words-3 c = search needs
 
 put-words-requires-3 : tie.Need-put-words-requires-3
 put-words-requires-3 c κs = tt
@@ -42,12 +33,12 @@ put-index-spec =
     tie.close
     (tie.spec
     put-requires
-    slice-aggregate-put-words
+    (λ c. search needs)
     put-words-requires
-    slice-aggregate-put-words-2
+    (λ c. search needs)
     put-words-requires-2
     put-requires-2
-    slice-aggregate-put-words-3
+    (λ c. search needs)
     put-words-requires-3
     same-length
     returns)

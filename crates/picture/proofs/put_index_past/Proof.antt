@@ -6,20 +6,11 @@ use Rattle.picture.proofs.Laws.{numbers-joined}
 use Rattle.picture.proofs.put_index_past.Statement.{statement}
 use Rattle.picture.proofs.put_index_past.Tie as tie
 
-slice-aggregate-put-words-past : tie.Need-slice-aggregate-put-words-past
-slice-aggregate-put-words-past c = search needs
-
 put-words-past-requires : tie.Need-put-words-past-requires
 put-words-past-requires c κs = tt
 
-slice-aggregate-put-words-past-2 : tie.Need-slice-aggregate-put-words-past-2
-slice-aggregate-put-words-past-2 c = search needs
-
 put-words-past-requires-2 : tie.Need-put-words-past-requires-2
 put-words-past-requires-2 c κs = tt
-
-slice-aggregate-put-words-past-3 : tie.Need-slice-aggregate-put-words-past-3
-slice-aggregate-put-words-past-3 c = search needs
 
 put-words-past-requires-3 : tie.Need-put-words-past-requires-3
 put-words-past-requires-3 c κs = tt
@@ -35,11 +26,11 @@ pub put-index-past-spec : {M : Type 1} → statement M
 put-index-past-spec =
     tie.close
     (tie.spec
-    slice-aggregate-put-words-past
+    (λ c. search needs)
     put-words-past-requires
-    slice-aggregate-put-words-past-2
+    (λ c. search needs)
     put-words-past-requires-2
-    slice-aggregate-put-words-past-3
+    (λ c. search needs)
     put-words-past-requires-3
     same-length
     returns)

@@ -15,38 +15,17 @@ Inv-loop out₀ at numbers to₀ i₀ left₀ out to i left = (i + left ≡ leng
 abbrev μ-loop : tie.MeasureT-loop
 μ-loop out₀ at numbers to₀ i₀ left₀ out to i left = left
 
-slice-aggregate-put-text : tie.Need-slice-aggregate-put-text Inv-loop μ-loop
-slice-aggregate-put-text c = search needs
-
 put-text-requires : tie.Need-put-text-requires Inv-loop μ-loop
 put-text-requires c κs = tt
 
 loop-holds : tie.Need-loop-holds Inv-loop μ-loop
 loop-holds c = (omega arith, omega arith, omega arith, lead-start _ _ _)
 
-mul-put : tie.Need-mul-put Inv-loop μ-loop
-mul-put c = search needs
-
-shared-slice-read-put : tie.Need-shared-slice-read-put Inv-loop μ-loop
-shared-slice-read-put c = search needs
-
 put-requires : tie.Need-put-requires Inv-loop μ-loop
 put-requires c κs = tt
 
-add-i : tie.Need-add-i Inv-loop μ-loop
-add-i c = search needs
-
-sub-left : tie.Need-sub-left Inv-loop μ-loop
-sub-left c = search needs
-
-loop-less : tie.Need-loop-less Inv-loop μ-loop
-loop-less c = search needs
-
 loop-again : tie.Need-loop-again Inv-loop μ-loop
 loop-again c = (omega arith, omega arith, omega arith, numbers-on (c .before .before .before .before .before .before .before .before .before .before .before .before .before .before .args .numbers .now) (c .before .before .before .before .before .before .loop .i) (omega arith) (c .before .before .before .before .before .before .loop .inv .3) (c .before .before .put .ensures))
-
-same-length : tie.Need-same-length Inv-loop μ-loop
-same-length c = search needs
 
 returns : tie.Need-returns Inv-loop μ-loop
 returns c = joined (c .before .before .before .before .put-text .ensures) (numbers-end (c .before .before .before .before .before .before .before .before .before .args .numbers .now) (c .before .loop .i) (omega arith) (omega arith) (c .before .loop .inv .3))
@@ -57,15 +36,15 @@ put-numbers-spec =
     (tie.spec
     Inv-loop
     μ-loop
-    slice-aggregate-put-text
+    (λ c. search needs)
     put-text-requires
     loop-holds
-    mul-put
-    shared-slice-read-put
+    (λ c. search needs)
+    (λ c. search needs)
     put-requires
-    add-i
-    sub-left
-    loop-less
+    (λ c. search needs)
+    (λ c. search needs)
+    (λ c. search needs)
     loop-again
-    same-length
+    (λ c. search needs)
     returns)

@@ -21,17 +21,11 @@ same-length c = c .before .before .before .put-numbers .ensures .size
 returns : tie.Need-returns
 returns c = let z = flag (c .before .before .before .before .before .before .all-zero .ensures) (c .if2 .taken) in (wrote-as (ap spaced (placed-all (c .before .before .before .before .before .before .before .before .before .args .bare) (c .before .before .before .before .before .before .before .before .before .args .place) (c .before .before .before .before .before .before .before .before .before .args .numbers .now) (c .before .before .before .before .before .if1 .taken))) (c .before .before .before .put-numbers .ensures), rw z (omega arith))
 
-add-t14 : tie.Need-add-t14
-add-t14 c = search needs
-
 same-length-2 : tie.Need-same-length-2
 same-length-2 c = c .before .before .before .before .put-numbers .ensures .size
 
 returns-2 : tie.Need-returns-2
 returns-2 c = let z = flag (c .before .before .before .before .before .before .before .all-zero .ensures) (c .before .if2 .left) in (wrote-as (ap spaced (placed-all (c .before .before .before .before .before .before .before .before .before .before .args .bare) (c .before .before .before .before .before .before .before .before .before .before .args .place) (c .before .before .before .before .before .before .before .before .before .before .args .numbers .now) (c .before .before .before .before .before .before .if1 .taken))) (c .before .before .before .before .put-numbers .ensures), rw z (omega arith))
-
-slice-aggregate-put-text : tie.Need-slice-aggregate-put-text
-slice-aggregate-put-text c = search needs
 
 put-text-requires : tie.Need-put-text-requires
 put-text-requires c κs = tt
@@ -48,9 +42,6 @@ put-requires c κs = tt
 put-numbers-requires-2 : tie.Need-put-numbers-requires-2
 put-numbers-requires-2 c κs = tt
 
-add-t26 : tie.Need-add-t26
-add-t26 c = search needs
-
 same-length-4 : tie.Need-same-length-4
 same-length-4 c = c .before .before .before .put-numbers2 .ensures .size ∙ c .before .before .before .before .before .before .before .put .ensures .size
 
@@ -65,15 +56,15 @@ put-place-spec =
     put-numbers-requires
     same-length
     returns
-    add-t14
+    (λ c. search needs)
     same-length-2
     returns-2
-    slice-aggregate-put-text
+    (λ c. search needs)
     put-text-requires
     same-length-3
     returns-3
     put-requires
     put-numbers-requires-2
-    add-t26
+    (λ c. search needs)
     same-length-4
     returns-4)

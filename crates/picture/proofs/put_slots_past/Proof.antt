@@ -11,9 +11,6 @@ use mathlib.Core.Bool.{false}
 use Rattle.picture.proofs.put_slots_past.Statement.{statement}
 use Rattle.picture.proofs.put_slots_past.Tie as tie
 
-slice-aggregate-walk-slots : tie.Need-slice-aggregate-walk-slots
-slice-aggregate-walk-slots c = search needs
-
 walk-slots-requires : tie.Need-walk-slots-requires
 walk-slots-requires c κs = tt
 
@@ -39,7 +36,7 @@ pub put-slots-past-spec : {M : Type 1} → statement M
 put-slots-past-spec =
     tie.close
     (tie.spec
-    slice-aggregate-walk-slots
+    (λ c. search needs)
     walk-slots-requires
     put-requires
     same-length

@@ -7,9 +7,6 @@ use Rattle.picture.proofs.Laws.{numbers-joined}
 use Rattle.picture.proofs.put_table.Statement.{statement}
 use Rattle.picture.proofs.put_table.Tie as tie
 
-slice-aggregate-put-numbers : tie.Need-slice-aggregate-put-numbers
-slice-aggregate-put-numbers c = search needs
-
 put-numbers-requires : tie.Need-put-numbers-requires
 put-numbers-requires c κs = tt
 
@@ -33,7 +30,7 @@ pub put-table-spec : {M : Type 1} → statement M
 put-table-spec =
     tie.close
     (tie.spec
-    slice-aggregate-put-numbers
+    (λ c. search needs)
     put-numbers-requires
     walk-slots-requires
     put-index-requires

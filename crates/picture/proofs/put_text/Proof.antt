@@ -21,32 +21,8 @@ returns c = no-room (c .before .before .before .args .out .now) (c .before .befo
 least-requires : tie.Need-least-requires Inv-loop μ-loop
 least-requires c κs = tt
 
-loop-holds : tie.Need-loop-holds Inv-loop μ-loop
-loop-holds c = search needs
-
-shared-slice-read-out : tie.Need-shared-slice-read-out Inv-loop μ-loop
-shared-slice-read-out c = search needs
-
-slice-write-out : tie.Need-slice-write-out Inv-loop μ-loop
-slice-write-out c = search needs
-
-add-to : tie.Need-add-to Inv-loop μ-loop
-add-to c = search needs
-
-add-from : tie.Need-add-from Inv-loop μ-loop
-add-from c = search needs
-
-sub-left : tie.Need-sub-left Inv-loop μ-loop
-sub-left c = search needs
-
-loop-less : tie.Need-loop-less Inv-loop μ-loop
-loop-less c = search needs
-
 loop-again : tie.Need-loop-again Inv-loop μ-loop
 loop-again c = (omega arith, omega arith, simp length-set (c .before .before .loop .inv .2), omega arith, text-on (c .before .before .before .before .before .before .before .args .text .now) (c .before .before .loop .from) (omega arith) (omega arith) (c .before .before .loop .inv .4))
-
-same-length : tie.Need-same-length Inv-loop μ-loop
-same-length c = search needs
 
 returns-2 : tie.Need-returns-2 Inv-loop μ-loop
 returns-2 c = text-end (c .before .before .before .before .before .before .args .text .now) (c .before .loop .from) (omega arith) (λ h. omega arith) (c .before .loop .inv .4)
@@ -59,13 +35,13 @@ put-text-spec =
     μ-loop
     returns
     least-requires
-    loop-holds
-    shared-slice-read-out
-    slice-write-out
-    add-to
-    add-from
-    sub-left
-    loop-less
+    (λ c. search needs)
+    (λ c. search needs)
+    (λ c. search needs)
+    (λ c. search needs)
+    (λ c. search needs)
+    (λ c. search needs)
+    (λ c. search needs)
     loop-again
-    same-length
+    (λ c. search needs)
     returns-2)

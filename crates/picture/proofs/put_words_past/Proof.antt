@@ -11,9 +11,6 @@ use mathlib.Core.Bool.{false}
 use Rattle.picture.proofs.put_words_past.Statement.{statement}
 use Rattle.picture.proofs.put_words_past.Tie as tie
 
-slice-aggregate-walk-words : tie.Need-slice-aggregate-walk-words
-slice-aggregate-walk-words c = search needs
-
 walk-words-requires : tie.Need-walk-words-requires
 walk-words-requires c κs = tt
 
@@ -39,7 +36,7 @@ pub put-words-past-spec : {M : Type 1} → statement M
 put-words-past-spec =
     tie.close
     (tie.spec
-    slice-aggregate-walk-words
+    (λ c. search needs)
     walk-words-requires
     put-requires
     same-length

@@ -17,14 +17,8 @@ abbrev μ-loop : tie.MeasureT-loop
 least-requires : tie.Need-least-requires Inv-loop μ-loop
 least-requires c κs = tt
 
-sub-least : tie.Need-sub-least Inv-loop μ-loop
-sub-least c = search needs
-
 least-requires-2 : tie.Need-least-requires-2 Inv-loop μ-loop
 least-requires-2 c κs = tt
-
-slice-aggregate-put-text : tie.Need-slice-aggregate-put-text Inv-loop μ-loop
-slice-aggregate-put-text c = search needs
 
 put-text-requires : tie.Need-put-text-requires Inv-loop μ-loop
 put-text-requires c κs = tt
@@ -32,35 +26,11 @@ put-text-requires c κs = tt
 loop-holds : tie.Need-loop-holds Inv-loop μ-loop
 loop-holds c = walk-start wordNumbers (c .before .before .before .before .before .before .before .before .before .args .bare) _ _ _ _ _ (omega arith) (omega arith)
 
-mul-wider : tie.Need-mul-wider Inv-loop μ-loop
-mul-wider c = search needs
-
-shared-slice-read-wider : tie.Need-shared-slice-read-wider Inv-loop μ-loop
-shared-slice-read-wider c = search needs
-
 wider-requires : tie.Need-wider-requires Inv-loop μ-loop
 wider-requires c κs = tt
 
-slice-aggregate-put-place : tie.Need-slice-aggregate-put-place Inv-loop μ-loop
-slice-aggregate-put-place c = search needs
-
-put-place-requires : tie.Need-put-place-requires Inv-loop μ-loop
-put-place-requires c κs = search needs
-
-add-i : tie.Need-add-i Inv-loop μ-loop
-add-i c = search needs
-
-sub-left : tie.Need-sub-left Inv-loop μ-loop
-sub-left c = search needs
-
-loop-less : tie.Need-loop-less Inv-loop μ-loop
-loop-less c = search needs
-
 loop-again : tie.Need-loop-again Inv-loop μ-loop
 loop-again c = walk-on wordNumbers (c .before .before .before .before .before .before .before .before .before .before .before .before .before .before .before .before .before .before .args .bare) 0 (ap (λ n. n ∷ []) (c .before .before .before .before .before .wider .ensures)) (c .before .before .before .before .before .before .before .before .loop .inv) (c .before .before .before .before .before .before .before .loop-test .taken) (c .before .before .put-place .ensures .0) (c .before .before .put-place .ensures .1)
-
-same-length : tie.Need-same-length Inv-loop μ-loop
-same-length c = search needs
 
 returns : tie.Need-returns Inv-loop μ-loop
 returns c = walk-end wordNumbers (c .before .before .before .before .before .before .before .before .before .before .before .args .bare) (c .before .before .before .before .before .before .before .before .before .before .before .args .from) (c .before .before .before .before .before .before .before .before .before .before .before .args .count) (omega arith) (omega arith) (c .before .before .before .before .put-text .ensures) (c .before .loop .inv) (c .loop-test .left)
@@ -72,19 +42,19 @@ walk-words-spec =
     Inv-loop
     μ-loop
     least-requires
-    sub-least
+    (λ c. search needs)
     least-requires-2
-    slice-aggregate-put-text
+    (λ c. search needs)
     put-text-requires
     loop-holds
-    mul-wider
-    shared-slice-read-wider
+    (λ c. search needs)
+    (λ c. search needs)
     wider-requires
-    slice-aggregate-put-place
-    put-place-requires
-    add-i
-    sub-left
-    loop-less
+    (λ c. search needs)
+    (λ c κs. search needs)
+    (λ c. search needs)
+    (λ c. search needs)
+    (λ c. search needs)
     loop-again
-    same-length
+    (λ c. search needs)
     returns)

@@ -7,8 +7,8 @@ use lib.ListN.{length, take, drop, length-drop}
 use lib.Seq.{drop-drop}
 use borrow.Author.Needs.{needs}
 use Rattle.basics.specs.Numbers.{MAX}
-use Rattle.steps.specs.Standing.{cleanOf, loadingOf}
-use Rattle.steps.specs.Steps.{step}
+use Rattle.sheet_steps.specs.Standing.{cleanOf, loadingOf}
+use Rattle.sheet_steps.specs.Steps.{step}
 use Rattle.sheet.specs.Run.{inFront, lineAfter, runFrom, turns}
 use Rattle.sheet.proofs.Runs.{rest, run-full, run-end, run-bad, run-on, whole, later}
 use Rattle.sheet.proofs.run.Statement.{statement}
@@ -19,9 +19,6 @@ Inv-loop first bytes out₀ stepped₀ number₀ at₀ written₀ left₀ out st
 
 abbrev μ-loop : tie.MeasureT-loop
 μ-loop first bytes out₀ stepped₀ number₀ at₀ written₀ left₀ out stepped number at written left = left
-
-turns-requires : tie.Need-turns-requires Inv-loop μ-loop
-turns-requires c κs = search needs
 
 loop-holds : tie.Need-loop-holds Inv-loop μ-loop
 unfolding turns
@@ -35,24 +32,6 @@ returns c =
     let here = c .before .before .before .loop in
     let given = c .before .before .before .before .before .before .before .args in
     (run-end (here .left) (here .stepped .standing) (here .number) (drop (here .at) (given .bytes .now)) (take (here .written) (here .out)) (simp length-drop (omega arith)) ∙ here .inv .0 ∙ ap (λ k. runFrom k (given .standing) (given .first) (given .bytes .now)) (c .before .before .before .before .turns .ensures), (here .inv .1, (here .inv .2, omega arith)))
-
-sub-step : tie.Need-sub-step Inv-loop μ-loop
-sub-step c = search needs
-
-part-step-start : tie.Need-part-step-start Inv-loop μ-loop
-part-step-start c = search needs
-
-part-step-end : tie.Need-part-step-end Inv-loop μ-loop
-part-step-end c = search needs
-
-step-requires : tie.Need-step-requires Inv-loop μ-loop
-step-requires c κs = search needs
-
-write-record-requires : tie.Need-write-record-requires Inv-loop μ-loop
-write-record-requires c κs = search needs
-
-is-bad-requires : tie.Need-is-bad-requires Inv-loop μ-loop
-is-bad-requires c κs = search needs
 
 same-length-2 : tie.Need-same-length-2 Inv-loop μ-loop
 same-length-2 c = c .before .before .before .before .before .write-record .ensures .1 .1 .0 ∙ c .before .before .before .before .before .before .before .before .before .before .before .loop .inv .2
@@ -71,9 +50,6 @@ returns-2 c =
     let line = wrote .ensures .0 in
     (run-bad (here .left) (here .stepped .standing) (here .number) (drop (here .at) (given .bytes .now)) (take (here .written) (here .out)) (take (wrote .result) (wrote .last .1 .1 .1 .1 .1 .0)) (stepped .result) told turn more line (sym (c .before .before .is-bad .ensures) ∙ c .before .if2 .taken) ∙ here .inv .0 ∙ ap (λ k. runFrom k (given .standing) (given .first) (given .bytes .now)) (c .before .before .before .before .before .before .before .before .before .before .before .before .turns .ensures), (wrote .ensures .1 .0 ∙ later (here .out) (given .out .now) (here .written) (wrote .result) room (here .inv .1), (wrote .ensures .1 .1 .0 ∙ here .inv .2, omega (arith, here .inv .3, wrote .ensures .1 .1 .1 .1, turn))))
 
-add-number : tie.Need-add-number Inv-loop μ-loop
-add-number c = search needs
-
 add-at : tie.Need-add-at Inv-loop μ-loop
 add-at c =
     let here = c .before .before .before .before .before .before .before .before .before .before .loop in
@@ -83,12 +59,6 @@ add-at c =
     let h = whole (here .stepped .standing) (drop (here .at) (given .bytes .now)) (stepped .result) told (sym (c .before .is-bad .ensures) ∙ c .if2 .left) in
     let fits = c .before .before .before .before .before .before .before .before .before .before .before .before .before .before .good .1 .1 .0 in
     omega (arith, length-drop (here .at) (given .bytes .now))
-
-sub-left : tie.Need-sub-left Inv-loop μ-loop
-sub-left c = search needs
-
-loop-less : tie.Need-loop-less Inv-loop μ-loop
-loop-less c = search needs
 
 loop-again : tie.Need-loop-again Inv-loop μ-loop
 unfolding lineAfter cleanOf loadingOf
@@ -122,22 +92,22 @@ run-spec =
     (tie.spec
     Inv-loop
     μ-loop
-    turns-requires
+    (λ c κs. search needs)
     loop-holds
     same-length
     returns
-    sub-step
-    part-step-start
-    part-step-end
-    step-requires
-    write-record-requires
-    is-bad-requires
+    (λ c. search needs)
+    (λ c. search needs)
+    (λ c. search needs)
+    (λ c κs. search needs)
+    (λ c κs. search needs)
+    (λ c κs. search needs)
     same-length-2
     returns-2
-    add-number
+    (λ c. search needs)
     add-at
-    sub-left
-    loop-less
+    (λ c. search needs)
+    (λ c. search needs)
     loop-again
     same-length-3
     returns-3)

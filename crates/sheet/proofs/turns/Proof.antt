@@ -5,9 +5,6 @@ use borrow.Author.Needs.{needs}
 use Rattle.sheet.proofs.turns.Statement.{statement}
 use Rattle.sheet.proofs.turns.Tie as tie
 
-sub-numbers : tie.Need-sub-numbers
-sub-numbers c = search needs
-
 returns : tie.Need-returns
 unfolding turns
 returns c = omega arith
@@ -17,4 +14,4 @@ unfolding turns
 returns-2 c = omega arith
 
 pub turns-spec : {M : Type 1} → statement M
-turns-spec = tie.close (tie.spec sub-numbers returns returns-2)
+turns-spec = tie.close (tie.spec (λ c. search needs) returns returns-2)

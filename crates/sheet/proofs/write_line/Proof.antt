@@ -16,24 +16,6 @@ Inv-loop out₀ at bytes from₀ to₀ out from to = (to + from₀ ≡ to₀ + f
 abbrev μ-loop : tie.MeasureT-loop
 μ-loop out₀ at bytes from₀ to₀ out from to = 96 - from
 
-loop-holds : tie.Need-loop-holds Inv-loop μ-loop
-loop-holds c = search needs
-
-array-read-out : tie.Need-array-read-out Inv-loop μ-loop
-array-read-out c = search needs
-
-slice-write-out : tie.Need-slice-write-out Inv-loop μ-loop
-slice-write-out c = search needs
-
-add-to : tie.Need-add-to Inv-loop μ-loop
-add-to c = search needs
-
-add-from : tie.Need-add-from Inv-loop μ-loop
-add-from c = search needs
-
-loop-less : tie.Need-loop-less Inv-loop μ-loop
-loop-less c = search needs
-
 loop-again : tie.Need-loop-again Inv-loop μ-loop
 loop-again c =
     let here = c .before .loop in
@@ -61,12 +43,12 @@ write-line-spec =
     (tie.spec
     Inv-loop
     μ-loop
-    loop-holds
-    array-read-out
-    slice-write-out
-    add-to
-    add-from
-    loop-less
+    (λ c. search needs)
+    (λ c. search needs)
+    (λ c. search needs)
+    (λ c. search needs)
+    (λ c. search needs)
+    (λ c. search needs)
     loop-again
     same-length
     returns)

@@ -16,35 +16,8 @@ abbrev μ-loop : tie.MeasureT-loop
 loop-holds : tie.Need-loop-holds Inv-loop μ-loop
 loop-holds c = (refl, omega arith, omega arith)
 
-shared-slice-read-take-byte : tie.Need-shared-slice-read-take-byte Inv-loop μ-loop
-shared-slice-read-take-byte c = search needs
-
-take-byte-requires : tie.Need-take-byte-requires Inv-loop μ-loop
-take-byte-requires c κs = search needs
-
-same-length : tie.Need-same-length Inv-loop μ-loop
-same-length c = search needs
-
-returns : tie.Need-returns Inv-loop μ-loop
-returns c = search needs
-
-add-i : tie.Need-add-i Inv-loop μ-loop
-add-i c = search needs
-
-loop-less : tie.Need-loop-less Inv-loop μ-loop
-loop-less c = search needs
-
 loop-again : tie.Need-loop-again Inv-loop μ-loop
 loop-again c = (c .before .before .before .before .before .take-byte .ensures .1 ∙ c .before .before .before .before .before .before .before .before .before .loop .inv .0, omega (arith, c .before .before .before .before .before .take-byte .ensures .0, c .before .before .before .before .before .take-byte .ensures .1), omega arith)
-
-whole-requires : tie.Need-whole-requires Inv-loop μ-loop
-whole-requires c κs = search needs
-
-same-length-2 : tie.Need-same-length-2 Inv-loop μ-loop
-same-length-2 c = search needs
-
-returns-2 : tie.Need-returns-2 Inv-loop μ-loop
-returns-2 c = search needs
 
 pub records-of-spec : {M : Type 1} → statement M
 records-of-spec =
@@ -53,13 +26,13 @@ records-of-spec =
     Inv-loop
     μ-loop
     loop-holds
-    shared-slice-read-take-byte
-    take-byte-requires
-    same-length
-    returns
-    add-i
-    loop-less
+    (λ c. search needs)
+    (λ c κs. search needs)
+    (λ c. search needs)
+    (λ c. search needs)
+    (λ c. search needs)
+    (λ c. search needs)
     loop-again
-    whole-requires
-    same-length-2
-    returns-2)
+    (λ c κs. search needs)
+    (λ c. search needs)
+    (λ c. search needs))

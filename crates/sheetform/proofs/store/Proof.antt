@@ -6,7 +6,7 @@ use mathlib.Core.Path.{_≡_, refl, sym, ap, _∙_}
 use mathlib.Core.List.{_++_, append-nil}
 use lib.ListN.{length, take, length-set}
 use lib.Seq.{take-length}
-use Rattle.sheetshow.proofs.Laws.{put-step}
+use Rattle.sheet_show.proofs.Laws.{put-step}
 use Rattle.sheetform.proofs.store.Statement.{statement}
 use Rattle.sheetform.proofs.store.Tie as tie
 
@@ -19,29 +19,8 @@ abbrev μ-loop : tie.MeasureT-loop
 loop-holds : tie.Need-loop-holds Inv-loop μ-loop
 loop-holds c = let e : c .args .at + 0 ≡ c .args .at = omega arith in (omega arith, refl, rw e (sym (append-nil (take (c .args .at) (c .args .out .now)))))
 
-shared-slice-read-out : tie.Need-shared-slice-read-out Inv-loop μ-loop
-shared-slice-read-out c = search needs
-
-add-out : tie.Need-add-out Inv-loop μ-loop
-add-out c = search needs
-
-slice-write-out : tie.Need-slice-write-out Inv-loop μ-loop
-slice-write-out c = search needs
-
-add-i : tie.Need-add-i Inv-loop μ-loop
-add-i c = search needs
-
-loop-less : tie.Need-loop-less Inv-loop μ-loop
-loop-less c = search needs
-
 loop-again : tie.Need-loop-again Inv-loop μ-loop
 loop-again c = (omega arith, simp length-set (c .before .before .loop .inv .1), put-step (c .before .before .loop .out) (c .before .before .before .args .out .now) (c .before .before .before .args .bytes .now) (c .before .before .before .args .at) (c .before .before .loop .i) (omega arith) (omega arith) (c .before .before .loop .inv .2))
-
-add-result : tie.Need-add-result Inv-loop μ-loop
-add-result c = search needs
-
-same-length : tie.Need-same-length Inv-loop μ-loop
-same-length c = search needs
 
 returns : tie.Need-returns Inv-loop μ-loop
 returns c = let z : c .before .loop .i ≡ length (c .before .before .args .bytes .now) = omega arith in (c .before .loop .inv .2 ∙ ap (λ k. take (c .before .before .args .at) (c .before .before .args .out .now) ++ take k (c .before .before .args .bytes .now)) z ∙ ap (λ l. take (c .before .before .args .at) (c .before .before .args .out .now) ++ l) (take-length (c .before .before .args .bytes .now)), (omega arith, c .before .loop .inv .1))
@@ -53,12 +32,12 @@ store-spec =
     Inv-loop
     μ-loop
     loop-holds
-    shared-slice-read-out
-    add-out
-    slice-write-out
-    add-i
-    loop-less
+    (λ c. search needs)
+    (λ c. search needs)
+    (λ c. search needs)
+    (λ c. search needs)
+    (λ c. search needs)
     loop-again
-    add-result
-    same-length
+    (λ c. search needs)
+    (λ c. search needs)
     returns)

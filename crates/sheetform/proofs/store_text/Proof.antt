@@ -17,13 +17,10 @@ slice-aggregate-store c = let g : length (c .before .before .before .args .text 
 store-requires : tie.Need-store-requires
 store-requires c κs = let g : length (c .before .before .before .before .args .text .bytes) ≡ 200 = search needs in let t = length-take-le (c .before .before .before .before .args .text .len) (c .before .before .before .before .args .text .bytes) (omega arith) in omega arith
 
-same-length : tie.Need-same-length
-same-length c = search needs
-
 returns : tie.Need-returns
 returns c = let g : length (c .before .before .before .before .before .before .before .args .text .bytes) ≡ 200 = search needs in let t = length-take-le (c .before .before .before .before .before .before .before .args .text .len) (c .before .before .before .before .before .before .before .args .text .bytes) (omega arith) in (c .before .before .store .ensures .0, (c .before .before .store .ensures .1 .0 ∙ ap (λ k. c .before .before .before .before .before .before .before .args .at + k) t, c .before .before .store .ensures .1 .1))
 
 pub store-text-spec : {M : Type 1} → statement M
 store-text-spec =
     tie.close
-    (tie.spec array-share-prefix-bytes slice-aggregate-store store-requires same-length returns)
+    (tie.spec array-share-prefix-bytes slice-aggregate-store store-requires (λ c. search needs) returns)

@@ -1,13 +1,13 @@
 -- `sheetform::text_of` meets its contract. The invariant: what is written, and the lines of the records that are left behind it, are the lines of all. Assumes nothing.
 use Prim.Native.Nat.{_-_, _+_, _*_, _/_, _≤_}
-use Rattle.sheetshow.specs.Form.{shown, listedText}
+use Rattle.sheet_show.specs.Form.{shown, listedText}
 use native.Mathlib.Omega.{arith}
 use borrow.Author.Needs.{needs}
 use mathlib.Core.Path.{_≡_, refl, sym, _∙_, ap}
 use mathlib.Core.List.{_++_, append-assoc, append-nil}
 use lib.ListN.{length, take, drop}
-use Rattle.lines.specs.Record.{readRecord}
-use Rattle.sheetshow.proofs.Laws.{all-from, listed-end, listed-none, listed-bad, listed-more}
+use Rattle.sheet_lines.specs.Record.{readRecord}
+use Rattle.sheet_show.proofs.Laws.{all-from, listed-end, listed-none, listed-bad, listed-more}
 use Rattle.sheetform.proofs.text_of.Statement.{statement}
 use Rattle.sheetform.proofs.text_of.Tie as tie
 
@@ -20,59 +20,14 @@ abbrev μ-loop : tie.MeasureT-loop
 loop-holds : tie.Need-loop-holds Inv-loop μ-loop
 loop-holds c = (refl, omega arith, omega arith, omega arith, refl)
 
-same-length : tie.Need-same-length Inv-loop μ-loop
-same-length c = search needs
-
 returns : tie.Need-returns Inv-loop μ-loop
 returns c = (sym (append-nil (take (c .before .before .loop .written) (c .before .before .loop .out))) ∙ ap (λ l. take (c .before .before .loop .written) (c .before .before .loop .out) ++ l) (sym (listed-none (c .before .before .before .before .before .args .bytes .now) (c .before .before .loop .at) (c .before .before .loop .left) (c .if1 .taken))) ∙ c .before .before .loop .inv .4, (omega arith, c .before .before .loop .inv .0))
-
-sub-read-record : tie.Need-sub-read-record Inv-loop μ-loop
-sub-read-record c = search needs
-
-part-read-record-start : tie.Need-part-read-record-start Inv-loop μ-loop
-part-read-record-start c = search needs
-
-part-read-record-end : tie.Need-part-read-record-end Inv-loop μ-loop
-part-read-record-end c = search needs
-
-read-record-requires : tie.Need-read-record-requires Inv-loop μ-loop
-read-record-requires c κs = search needs
-
-enum-known-call : tie.Need-enum-known-call Inv-loop μ-loop
-enum-known-call c = search needs
-
-enum-told : tie.Need-enum-told Inv-loop μ-loop
-enum-told c = search needs
-
-same-length-2 : tie.Need-same-length-2 Inv-loop μ-loop
-same-length-2 c = search needs
 
 returns-2 : tie.Need-returns-2 Inv-loop μ-loop
 returns-2 c = let e = sym (ap readRecord (all-from (c .before .before .before .before .before .before .before .before .before .args .bytes .now) (c .before .before .before .before .before .before .loop .at) (length (c .before .before .before .before .before .before .before .before .before .args .bytes .now)) refl)) ∙ sym (c .before .before .read-record .ensures .0) ∙ c .enum-told .given .1 in (sym (append-nil (take (c .before .before .before .before .before .before .loop .written) (c .before .before .before .before .before .before .loop .out))) ∙ ap (λ l. take (c .before .before .before .before .before .before .loop .written) (c .before .before .before .before .before .before .loop .out) ++ l) (sym (listed-bad (c .before .before .before .before .before .before .before .before .before .args .bytes .now) (c .before .before .before .before .before .before .loop .at) (c .before .before .before .before .before .before .loop .left) (c .before .before .before .before .before .loop-test .taken) (c .before .before .before .before .if1 .left) e)) ∙ c .before .before .before .before .before .before .loop .inv .4, (omega arith, c .before .before .before .before .before .before .loop .inv .0))
 
-show-record-requires : tie.Need-show-record-requires Inv-loop μ-loop
-show-record-requires c κs = search needs
-
-store-text-requires : tie.Need-store-text-requires Inv-loop μ-loop
-store-text-requires c κs = search needs
-
-add-records : tie.Need-add-records Inv-loop μ-loop
-add-records c = search needs
-
-add-at : tie.Need-add-at Inv-loop μ-loop
-add-at c = search needs
-
-sub-left : tie.Need-sub-left Inv-loop μ-loop
-sub-left c = search needs
-
-loop-less : tie.Need-loop-less Inv-loop μ-loop
-loop-less c = search needs
-
 loop-again : tie.Need-loop-again Inv-loop μ-loop
 loop-again c = let e = sym (ap readRecord (all-from (c .before .before .before .before .before .before .before .before .before .before .before .before .before .before .before .args .bytes .now) (c .before .before .before .before .before .before .before .before .before .before .before .before .loop .at) (length (c .before .before .before .before .before .before .before .before .before .before .before .before .before .before .before .args .bytes .now)) refl)) ∙ sym (c .before .before .before .before .before .before .before .before .read-record .ensures .0) ∙ c .before .before .before .before .before .before .call .given .1 in (c .before .before .store-text .ensures .1 .1 ∙ c .before .before .before .before .before .before .before .before .before .before .before .before .loop .inv .0, omega (arith, c .before .before .store-text .ensures .1 .0, c .before .before .before .before .show-record .ensures .1), omega arith, omega arith, ap (λ l. l ++ listedText (c .before .before .before .before .before .before .before .before .before .before .before .before .loop .left - 1) (drop (c .before .before .before .before .before .before .before .before .before .before .before .before .loop .at + 24) (c .before .before .before .before .before .before .before .before .before .before .before .before .before .before .before .args .bytes .now))) (c .before .before .store-text .ensures .0 ∙ ap (λ l. take (c .before .before .before .before .before .before .before .before .before .before .before .before .loop .written) (c .before .before .before .before .before .before .before .before .before .before .before .before .loop .out) ++ l) (c .before .before .before .before .show-record .ensures .0)) ∙ append-assoc (take (c .before .before .before .before .before .before .before .before .before .before .before .before .loop .written) (c .before .before .before .before .before .before .before .before .before .before .before .before .loop .out)) (shown (c .before .before .before .before .before .before .call .given .0 .0)) (listedText (c .before .before .before .before .before .before .before .before .before .before .before .before .loop .left - 1) (drop (c .before .before .before .before .before .before .before .before .before .before .before .before .loop .at + 24) (c .before .before .before .before .before .before .before .before .before .before .before .before .before .before .before .args .bytes .now))) ∙ ap (λ l. take (c .before .before .before .before .before .before .before .before .before .before .before .before .loop .written) (c .before .before .before .before .before .before .before .before .before .before .before .before .loop .out) ++ l) (sym (listed-more (c .before .before .before .before .before .before .before .before .before .before .before .before .before .before .before .args .bytes .now) (c .before .before .before .before .before .before .before .before .before .before .before .before .loop .at) (c .before .before .before .before .before .before .before .before .before .before .before .before .loop .left) (c .before .before .before .before .before .before .call .given .0 .0) (c .before .before .before .before .before .before .before .before .before .before .before .loop-test .taken) (c .before .before .before .before .before .before .before .before .before .before .if1 .left) e)) ∙ c .before .before .before .before .before .before .before .before .before .before .before .before .loop .inv .4)
-
-same-length-3 : tie.Need-same-length-3 Inv-loop μ-loop
-same-length-3 c = search needs
 
 returns-3 : tie.Need-returns-3 Inv-loop μ-loop
 returns-3 c = (sym (append-nil (take (c .before .loop .written) (c .before .loop .out))) ∙ ap (λ l. take (c .before .loop .written) (c .before .loop .out) ++ l) (sym (listed-end (c .before .before .before .before .args .bytes .now) (c .before .loop .at) (c .before .loop .left) (c .loop-test .left))) ∙ c .before .loop .inv .4, (omega arith, c .before .loop .inv .0))
@@ -84,22 +39,22 @@ text-of-spec =
     Inv-loop
     μ-loop
     loop-holds
-    same-length
+    (λ c. search needs)
     returns
-    sub-read-record
-    part-read-record-start
-    part-read-record-end
-    read-record-requires
-    enum-known-call
-    enum-told
-    same-length-2
+    (λ c. search needs)
+    (λ c. search needs)
+    (λ c. search needs)
+    (λ c κs. search needs)
+    (λ c. search needs)
+    (λ c. search needs)
+    (λ c. search needs)
     returns-2
-    show-record-requires
-    store-text-requires
-    add-records
-    add-at
-    sub-left
-    loop-less
+    (λ c κs. search needs)
+    (λ c κs. search needs)
+    (λ c. search needs)
+    (λ c. search needs)
+    (λ c. search needs)
+    (λ c. search needs)
     loop-again
-    same-length-3
+    (λ c. search needs)
     returns-3)

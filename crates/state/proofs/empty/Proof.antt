@@ -4,12 +4,9 @@ use borrow.Author.Needs.{needs}
 use Rattle.state.proofs.empty.Statement.{statement}
 use Rattle.state.proofs.empty.Tie as tie
 
-vacant-slot-requires : tie.Need-vacant-slot-requires
-vacant-slot-requires c κs = search needs
-
 returns : tie.Need-returns
 unfolding empty
 returns c = rw (c .vacant-slot .ensures)
 
 pub empty-spec : {M : Type 1} → statement M
-empty-spec = tie.close (tie.spec vacant-slot-requires returns)
+empty-spec = tie.close (tie.spec (λ c κs. search needs) returns)

@@ -9,9 +9,6 @@ returns : tie.Need-returns
 unfolding loadsFor
 returns c = search tests
 
-same-requires : tie.Need-same-requires
-same-requires c κs = search needs
-
 returns-2 : tie.Need-returns-2
 unfolding loadsFor
 returns-2 c = search (tests, no (c .before .same .ensures) (c .if2 .taken))
@@ -21,4 +18,4 @@ unfolding loadsFor
 returns-3 c = search (tests, yes (c .before .before .before .same .ensures) (c .before .before .if2 .left))
 
 pub loads-for-spec : {M : Type 1} → statement M
-loads-for-spec = tie.close (tie.spec returns same-requires returns-2 returns-3)
+loads-for-spec = tie.close (tie.spec returns (λ c κs. search needs) returns-2 returns-3)

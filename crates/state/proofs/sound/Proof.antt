@@ -6,15 +6,6 @@ use borrow.Author.Needs.{needs}
 use Rattle.state.proofs.sound.Statement.{statement}
 use Rattle.state.proofs.sound.Tie as tie
 
-bucket-count-requires : tie.Need-bucket-count-requires
-bucket-count-requires c κs = search needs
-
-enum-known-count : tie.Need-enum-known-count
-enum-known-count c = search needs
-
-enum-told : tie.Need-enum-told
-enum-told c = search needs
-
 returns : tie.Need-returns
 returns c = sym (no-count _ _ _ _ (c .before .before .bucket-count .ensures) (c .enum-told .given .1))
 
@@ -31,9 +22,9 @@ pub sound-spec : {M : Type 1} → statement M
 sound-spec =
     tie.close
     (tie.spec
-    bucket-count-requires
-    enum-known-count
-    enum-told
+    (λ c κs. search needs)
+    (λ c. search needs)
+    (λ c. search needs)
     returns
     returns-2
     returns-3

@@ -18,26 +18,8 @@ abbrev μ-loop : tie.MeasureT-loop
 loop-holds : tie.Need-loop-holds Inv-loop μ-loop
 loop-holds c = let n : length (c .args .t1) ≡ 256 = search needs in (omega arith, n, refl)
 
-array-read-wide : tie.Need-array-read-wide Inv-loop μ-loop
-array-read-wide c = search needs
-
-wide-requires : tie.Need-wide-requires Inv-loop μ-loop
-wide-requires c κs = search needs
-
-mul-words : tie.Need-mul-words Inv-loop μ-loop
-mul-words c = search needs
-
 array-write-words : tie.Need-array-write-words Inv-loop μ-loop
 array-write-words c = let n = ap length (c .before .before .loop .inv .2) in search needs
-
-add-i : tie.Need-add-i Inv-loop μ-loop
-add-i c = search needs
-
-sub-left : tie.Need-sub-left Inv-loop μ-loop
-sub-left c = search needs
-
-loop-less : tie.Need-loop-less Inv-loop μ-loop
-loop-less c = search needs
 
 loop-again : tie.Need-loop-again Inv-loop μ-loop
 loop-again c = (omega arith, c .before .before .loop .inv .1, ap (λ l. set l (c .before .before .loop .i) (c .wide .result)) (c .before .before .loop .inv .2) ∙ fill-turn 256 (c .before .before .before .args .t1) (c .before .before .loop .i) (c .wide .result) (omega arith) (omega arith) (c .wide .ensures))
@@ -52,12 +34,12 @@ pin-words-spec =
     Inv-loop
     μ-loop
     loop-holds
-    array-read-wide
-    wide-requires
-    mul-words
+    (λ c. search needs)
+    (λ c κs. search needs)
+    (λ c. search needs)
     array-write-words
-    add-i
-    sub-left
-    loop-less
+    (λ c. search needs)
+    (λ c. search needs)
+    (λ c. search needs)
     loop-again
     returns)

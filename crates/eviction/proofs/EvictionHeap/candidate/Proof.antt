@@ -18,19 +18,10 @@ returns-3 : tie.Need-returns-3
 unfolding candidateAt sized
 returns-3 c = search tests
 
-mul-e : tie.Need-mul-e
-mul-e c = search needs
-
-element-copy-out-e : tie.Need-element-copy-out-e
-element-copy-out-e c = search needs
-
-cast-t7 : tie.Need-cast-t7
-cast-t7 c = search needs
-
 returns-4 : tie.Need-returns-4
 unfolding candidateAt sized
 returns-4 c = search tests
 
 pub candidate-spec : {M : Type 1} → statement M
 candidate-spec =
-    tie.close (tie.spec returns returns-2 returns-3 mul-e element-copy-out-e cast-t7 returns-4)
+    tie.close (tie.spec returns returns-2 returns-3 (λ c. search needs) (λ c. search needs) (λ c. search needs) returns-4)

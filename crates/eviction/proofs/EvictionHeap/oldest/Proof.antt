@@ -18,15 +18,9 @@ returns-3 : tie.Need-returns-3
 unfolding oldestOf candidateAt sized
 returns-3 c = search tests
 
-element-copy-out-e : tie.Need-element-copy-out-e
-element-copy-out-e c = search needs
-
-cast-t6 : tie.Need-cast-t6
-cast-t6 c = search needs
-
 returns-4 : tie.Need-returns-4
 unfolding oldestOf candidateAt sized
 returns-4 c = search tests
 
 pub oldest-spec : {M : Type 1} → statement M
-oldest-spec = tie.close (tie.spec returns returns-2 returns-3 element-copy-out-e cast-t6 returns-4)
+oldest-spec = tie.close (tie.spec returns returns-2 returns-3 (λ c. search needs) (λ c. search needs) returns-4)

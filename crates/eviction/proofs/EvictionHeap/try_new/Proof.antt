@@ -26,15 +26,6 @@ made : (c : ℕ) {d : Done} {places : List ℕ} → doneAnswer d ≡ needCapacit
 unfolding newHeap freshHeap
 made c e q w = rw (← e, q, w)
 
-check-capacity-requires : tie.Need-check-capacity-requires
-check-capacity-requires c κs = search needs
-
-enum-known-checked : tie.Need-enum-known-checked
-enum-known-checked c = search needs
-
-enum-told : tie.Need-enum-told
-enum-told c = search needs
-
 filled-positions-requires : tie.Need-filled-positions-requires
 filled-positions-requires c κs = let f = capacity-fits _ (sym (c .before .before .check-capacity .ensures) ∙ ap doneAnswer (c .enum-told .given .1)) in f .1
 
@@ -49,9 +40,9 @@ pub try-new-spec : {M : Type 1} → statement M
 try-new-spec =
     tie.close
     (tie.spec
-    check-capacity-requires
-    enum-known-checked
-    enum-told
+    (λ c κs. search needs)
+    (λ c. search needs)
+    (λ c. search needs)
     filled-positions-requires
     returns
     returns-2)

@@ -34,32 +34,11 @@ loop-holds c = search tests
 returns-4 : tie.Need-returns-4 Inv-loop μ-loop
 returns-4 c = rw (← c .before .before .loop .inv, victim-step _ _ _ _ _ (c .before .loop-test .taken)) (simp (le-leb _ _ (c .if4 .taken)))
 
-mul-e : tie.Need-mul-e Inv-loop μ-loop
-mul-e c = search needs
-
-element-copy-out-e : tie.Need-element-copy-out-e Inv-loop μ-loop
-element-copy-out-e c = search needs
-
-cast-slot : tie.Need-cast-slot Inv-loop μ-loop
-cast-slot c = search needs
-
 returns-5 : tie.Need-returns-5 Inv-loop μ-loop
 returns-5 c = rw (← c .before .before .before .before .before .loop .inv, victim-step _ _ _ _ _ (c .before .before .before .before .loop-test .taken)) (simp (lt-leb _ _ (c .before .before .before .if4 .left), le-leb _ _ (c .if5 .taken)))
 
-shared-slice-read-if6 : tie.Need-shared-slice-read-if6 Inv-loop μ-loop
-shared-slice-read-if6 c = search needs
-
 returns-6 : tie.Need-returns-6 Inv-loop μ-loop
 returns-6 c = rw (← c .before .before .before .before .before .before .before .loop .inv, victim-step _ _ _ _ _ (c .before .before .before .before .before .before .loop-test .taken)) (simp (lt-leb _ _ (c .before .before .before .before .before .if4 .left), lt-leb _ _ (c .before .before .if5 .left), eq-eqb _ _ (c .if6 .taken)))
-
-add-i : tie.Need-add-i Inv-loop μ-loop
-add-i c = search needs
-
-sub-left : tie.Need-sub-left Inv-loop μ-loop
-sub-left c = search needs
-
-loop-less : tie.Need-loop-less Inv-loop μ-loop
-loop-less c = search needs
 
 loop-again : tie.Need-loop-again Inv-loop μ-loop
 loop-again c = rw (← c .before .before .before .before .before .before .before .loop .inv, victim-step _ _ _ _ _ (c .before .before .before .before .before .before .loop-test .taken)) (simp (lt-leb _ _ (c .before .before .before .before .before .if4 .left), lt-leb _ _ (c .before .before .if5 .left), ne-eqb _ _ (c .if6 .left)))
@@ -78,14 +57,14 @@ victim-spec =
     returns-3
     loop-holds
     returns-4
-    mul-e
-    element-copy-out-e
-    cast-slot
+    (λ c. search needs)
+    (λ c. search needs)
+    (λ c. search needs)
     returns-5
-    shared-slice-read-if6
+    (λ c. search needs)
     returns-6
-    add-i
-    sub-left
-    loop-less
+    (λ c. search needs)
+    (λ c. search needs)
+    (λ c. search needs)
     loop-again
     returns-7)

@@ -6,9 +6,6 @@ use Rattle.index.specs.Free.{releaseIndex}
 use Rattle.index.proofs.Index.release.Statement.{statement}
 use Rattle.index.proofs.Index.release.Tie as tie
 
-sized-requires : tie.Need-sized-requires
-sized-requires c κs = search needs
-
 returns : tie.Need-returns
 unfolding releaseIndex
 returns c = search (tests, no (c .before .sized .ensures) (c .if1 .taken))
@@ -51,7 +48,7 @@ pub release-spec : {M : Type 1} → statement M
 release-spec =
     tie.close
     (tie.spec
-    sized-requires
+    (λ c κs. search needs)
     returns
     returns-2
     mul-next

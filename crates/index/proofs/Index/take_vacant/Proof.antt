@@ -6,9 +6,6 @@ use Rattle.index.proofs.Cases.{has-sizes}
 use Rattle.index.proofs.Index.take_vacant.Statement.{statement}
 use Rattle.index.proofs.Index.take_vacant.Tie as tie
 
-sized-requires : tie.Need-sized-requires
-sized-requires c κs = search needs
-
 returns : tie.Need-returns
 unfolding takeVacant
 returns c = search (tests, no (c .before .sized .ensures) (c .if1 .taken))
@@ -25,9 +22,6 @@ mul-wide c = let f = has-sizes (yes (c .before .before .sized .ensures) (c .befo
 
 element-copy-out-wide : tie.Need-element-copy-out-wide
 element-copy-out-wide c = let f = has-sizes (yes (c .before .before .sized .ensures) (c .before .if1 .left)) in search needs
-
-wide-requires : tie.Need-wide-requires
-wide-requires c κs = search needs
 
 returns-3 : tie.Need-returns-3
 unfolding takeVacant
@@ -47,13 +41,13 @@ pub take-vacant-spec : {M : Type 1} → statement M
 take-vacant-spec =
     tie.close
     (tie.spec
-    sized-requires
+    (λ c κs. search needs)
     returns
     returns-2
     sub-n
     mul-wide
     element-copy-out-wide
-    wide-requires
+    (λ c κs. search needs)
     returns-3
     mul-self
     element-write-self

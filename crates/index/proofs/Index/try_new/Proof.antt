@@ -41,15 +41,6 @@ made c e q =
     let f = capacity-fits c (p .0) in
     record { some = f .0; small = f .1; equal = p .1; new = rw (p .0) }
 
-bucket-count-requires : tie.Need-bucket-count-requires
-bucket-count-requires c κs = search needs
-
-enum-known-counted : tie.Need-enum-known-counted
-enum-known-counted c = search needs
-
-enum-known-counted-2 : tie.Need-enum-known-counted-2
-enum-known-counted-2 c = search needs
-
 empty-heads-requires : tie.Need-empty-heads-requires
 empty-heads-requires c κs = let m = made _ (c .before .before .before .bucket-count .ensures) (c .before .counted2 .given .1) in rw (m .equal) (few-buckets _ (m .small))
 
@@ -71,9 +62,9 @@ pub try-new-spec : {M : Type 1} → statement M
 try-new-spec =
     tie.close
     (tie.spec
-    bucket-count-requires
-    enum-known-counted
-    enum-known-counted-2
+    (λ c κs. search needs)
+    (λ c. search needs)
+    (λ c. search needs)
     empty-heads-requires
     empty-next-requires
     full-stack-requires

@@ -6,9 +6,6 @@ use Rattle.index.specs.Free.{topVacant}
 use Rattle.index.proofs.Index.vacant.Statement.{statement}
 use Rattle.index.proofs.Index.vacant.Tie as tie
 
-sized-requires : tie.Need-sized-requires
-sized-requires c κs = search needs
-
 returns : tie.Need-returns
 unfolding topVacant
 returns c = search (tests, no (c .before .sized .ensures) (c .if1 .taken))
@@ -26,9 +23,6 @@ mul-wide c = let f = has-sizes (yes (c .before .before .sized .ensures) (c .befo
 element-copy-out-wide : tie.Need-element-copy-out-wide
 element-copy-out-wide c = let f = has-sizes (yes (c .before .before .sized .ensures) (c .before .if1 .left)) in search needs
 
-wide-requires : tie.Need-wide-requires
-wide-requires c κs = search needs
-
 returns-3 : tie.Need-returns-3
 unfolding topVacant
 returns-3 c = search (tests, yes (c .before .before .before .before .sized .ensures) (c .before .before .before .if1 .left), c .wide .ensures)
@@ -37,11 +31,11 @@ pub vacant-spec : {M : Type 1} → statement M
 vacant-spec =
     tie.close
     (tie.spec
-    sized-requires
+    (λ c κs. search needs)
     returns
     returns-2
     sub-wide
     mul-wide
     element-copy-out-wide
-    wide-requires
+    (λ c κs. search needs)
     returns-3)

@@ -12,21 +12,9 @@ use Rattle.key.proofs.CacheKey.bucket.Tie as tie
 wrapped : (k : CacheKey) {part sum : ℕ} → part ≡ (k .file + k .kind) % 2 ^ 64 → sum ≡ (part + k .index) % 2 ^ 64 → sum ≡ (k .file + k .kind + k .index) % 2 ^ 64
 wrapped k p s = s ∙ ap (λ (x : ℕ). (x + k .index) % 2 ^ 64) p ∙ mod-add-mod _ _ _
 
-cast-kind : tie.Need-cast-kind
-cast-kind c = search needs
-
-wrapping-add-u64-requires : tie.Need-wrapping-add-u64-requires
-wrapping-add-u64-requires c κs = search needs
-
-wrapping-add-u64-requires-2 : tie.Need-wrapping-add-u64-requires-2
-wrapping-add-u64-requires-2 c κs = search needs
-
 returns : tie.Need-returns
 unfolding bucketOf
 returns c = wrapped _ (c .before .before .wrapping-add-u64 .ensures) (c .before .wrapping-add-u642 .ensures) ∙ rw (c .if1 .taken, mod-zero)
-
-rem-result : tie.Need-rem-result
-rem-result c = search needs
 
 returns-2 : tie.Need-returns-2
 unfolding bucketOf
@@ -36,9 +24,9 @@ pub bucket-spec : {M : Type 1} → statement M
 bucket-spec =
     tie.close
     (tie.spec
-    cast-kind
-    wrapping-add-u64-requires
-    wrapping-add-u64-requires-2
+    (λ c. search needs)
+    (λ c κs. search needs)
+    (λ c κs. search needs)
     returns
-    rem-result
+    (λ c. search needs)
     returns-2)

@@ -6,9 +6,6 @@ use borrow.Author.Needs.{needs}
 use Rattle.state.proofs.State.clean_entry.Statement.{statement}
 use Rattle.state.proofs.State.clean_entry.Tie as tie
 
-sound-requires : tie.Need-sound-requires
-sound-requires c κs = search needs
-
 returns : tie.Need-returns
 unfolding cleanEntry
 returns c = search (tests, no (c .before .sound .ensures) (c .if1 .taken))
@@ -34,4 +31,4 @@ returns-4 c = search (tests, yes (c .before .before .before .before .before .bef
 pub clean-entry-spec : {M : Type 1} → statement M
 clean-entry-spec =
     tie.close
-    (tie.spec sound-requires returns returns-2 mul-read element-copy-out-read returns-3 returns-4)
+    (tie.spec (λ c κs. search needs) returns returns-2 mul-read element-copy-out-read returns-3 returns-4)

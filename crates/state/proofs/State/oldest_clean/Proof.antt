@@ -6,18 +6,9 @@ use borrow.Author.Needs.{needs}
 use Rattle.state.proofs.State.oldest_clean.Statement.{statement}
 use Rattle.state.proofs.State.oldest_clean.Tie as tie
 
-sound-requires : tie.Need-sound-requires
-sound-requires c κs = search needs
-
 returns : tie.Need-returns
 unfolding oldestClean
 returns c = search (tests, no (c .before .sound .ensures) (c .if1 .taken))
-
-oldest-requires : tie.Need-oldest-requires
-oldest-requires c κs = search needs
-
-of-cold-requires : tie.Need-of-cold-requires
-of-cold-requires c κs = search needs
 
 returns-2 : tie.Need-returns-2
 unfolding oldestClean
@@ -25,4 +16,4 @@ returns-2 c = rw (yes (c .before .before .before .before .sound .ensures) (c .be
 
 pub oldest-clean-spec : {M : Type 1} → statement M
 oldest-clean-spec =
-    tie.close (tie.spec sound-requires returns oldest-requires of-cold-requires returns-2)
+    tie.close (tie.spec (λ c κs. search needs) returns (λ c κs. search needs) (λ c κs. search needs) returns-2)

@@ -4,26 +4,8 @@ use borrow.Author.Needs.{needs}
 use Rattle.state.proofs.State.try_new.Statement.{statement}
 use Rattle.state.proofs.State.try_new.Tie as tie
 
-try-new-requires : tie.Need-try-new-requires
-try-new-requires c κs = search needs
-
-try-new-requires-2 : tie.Need-try-new-requires-2
-try-new-requires-2 c κs = search needs
-
-enum-known-answer : tie.Need-enum-known-answer
-enum-known-answer c = search needs
-
-empty-requires : tie.Need-empty-requires
-empty-requires c κs = search needs
-
 returns : tie.Need-returns
 returns c = new-refused _ (c .before .before .before .before .before .before .before .try-new .ensures) (c .before .before .before .before .before .try-new2 .ensures) (c .before .before .answer .given .1) (c .empty .ensures)
-
-enum-told : tie.Need-enum-told
-enum-told c = search needs
-
-empty-requires-2 : tie.Need-empty-requires-2
-empty-requires-2 c κs = search needs
 
 returns-2 : tie.Need-returns-2
 returns-2 c = new-made _ (c .before .before .before .before .before .before .try-new .ensures) (c .before .before .before .before .try-new2 .ensures) (c .before .enum-told .given .1) (c .empty2 .ensures)
@@ -32,11 +14,11 @@ pub try-new-spec : {M : Type 1} → statement M
 try-new-spec =
     tie.close
     (tie.spec
-    try-new-requires
-    try-new-requires-2
-    enum-known-answer
-    empty-requires
+    (λ c κs. search needs)
+    (λ c κs. search needs)
+    (λ c. search needs)
+    (λ c κs. search needs)
     returns
-    enum-told
-    empty-requires-2
+    (λ c. search needs)
+    (λ c κs. search needs)
     returns-2)

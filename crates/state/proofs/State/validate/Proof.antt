@@ -6,15 +6,9 @@ use borrow.Author.Needs.{needs}
 use Rattle.state.proofs.State.validate.Statement.{statement}
 use Rattle.state.proofs.State.validate.Tie as tie
 
-sound-requires : tie.Need-sound-requires
-sound-requires c κs = search needs
-
 returns : tie.Need-returns
 unfolding validate
 returns c = search (tests, no (c .before .sound .ensures) (c .if1 .taken))
-
-wide-requires : tie.Need-wide-requires
-wide-requires c κs = search needs
 
 returns-2 : tie.Need-returns-2
 unfolding validate
@@ -25,9 +19,6 @@ mul-entry c = let f = sound-sizes (yes (c .before .before .before .sound .ensure
 
 element-copy-out-entry : tie.Need-element-copy-out-entry
 element-copy-out-entry c = let f = sound-sizes (yes (c .before .before .before .sound .ensures) (c .before .before .if1 .left)) in search needs
-
-loads-for-requires : tie.Need-loads-for-requires
-loads-for-requires c κs = search needs
 
 returns-3 : tie.Need-returns-3
 unfolding validate
@@ -41,12 +32,12 @@ pub validate-spec : {M : Type 1} → statement M
 validate-spec =
     tie.close
     (tie.spec
-    sound-requires
+    (λ c κs. search needs)
     returns
-    wide-requires
+    (λ c κs. search needs)
     returns-2
     mul-entry
     element-copy-out-entry
-    loads-for-requires
+    (λ c κs. search needs)
     returns-3
     returns-4)

@@ -1,0 +1,16 @@
+-- `sheet_show::uses_allow` meets its contract. Assumes nothing.
+use Rattle.basics.proofs.Tests.{tests}
+use Rattle.sheet_show.specs.Uses.{usesAllow}
+use Rattle.sheet_show.proofs.uses_allow.Statement.{statement}
+use Rattle.sheet_show.proofs.uses_allow.Tie as tie
+
+returns : tie.Need-returns
+unfolding usesAllow
+returns c = search tests
+
+returns-2 : tie.Need-returns-2
+unfolding usesAllow
+returns-2 c = search tests
+
+pub uses-allow-spec : {M : Type 1} → statement M
+uses-allow-spec = tie.close (tie.spec returns returns-2)
