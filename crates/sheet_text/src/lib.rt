@@ -1,4 +1,4 @@
-// A line of a run sheet's text form read (sheets/README.md): one call a line, with names for fields. Crate `sheetshow` has the way back.
+// A line of a run sheet's text form read (sheets/README.md): one call a line, with names for fields. Crate `sheet_show` has the way back.
 ghost use mathlib.Core.Path.{_≡_};
 ghost use mathlib.Core.Bool.{true};
 ghost use Prim.Native.Nat.{_+_, _≤_, _<_};
