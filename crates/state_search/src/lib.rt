@@ -1,7 +1,7 @@
 // SPDX-FileCopyrightText: 2026 roolrz
 // SPDX-License-Identifier: Apache-2.0
 
-// state/mod.rs, what the searches of a key's chain share, and peek_clean. Lookup (crate lookup) and access (crate load) walk the chain themselves:
+// state/mod.rs, what the searches of a key's chain share, and peek_clean. Lookup (`state_lookup`) and access (`state_access`) walk the chain themselves:
 // a function of its own would take the table by value, which copies it. Every function works on any table.
 ghost use mathlib.Core.Path.{_≡_};
 ghost use Rattle.eviction.specs.Answers.{movedOf as heapMovedOf};
