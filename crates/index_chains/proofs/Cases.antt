@@ -1,19 +1,22 @@
--- What the proofs of the chains share: a bucket within the heads, and the walks one step on. Assumes nothing.
+-- What the proofs of the chains share: a bucket within the heads, the walks one step on, and an answer that is done. Assumes nothing.
 use Prim.Native.Nat.{ℕ, zero, suc, _-_, _≤_, _<_}
 use native.Mathlib.Omega.{arith}
-use mathlib.Core.Path.{_≡_, refl}
+use mathlib.Core.Path.{_≡_, refl, sym, _∙_, ap}
 use mathlib.Core.Bool.{true, false}
 use lib.Dec.{leb, eqb}
 use lib.ListN.{getD}
 use borrow.Author.Tests.{lt-ltb, eq-eqb, ne-eqb}
-use Rattle.basics.specs.Try.{ok, refuse, _>>=_, _>>_, if_then_else_, need}
+use Rattle.basics.specs.Try.{Try, ok, refuse, _>>=_, _>>_, if_then_else_, need}
 use Rattle.basics.specs.Refusals.{STOP}
 use Rattle.basics.specs.Numbers.{NONE}
+use Rattle.basics.specs.declared.Done.{Done}
 use Rattle.basics.proofs.Tests.{one-less}
 use Rattle.key.specs.declared.CacheKey.{CacheKey}
 use Rattle.key.specs.Bucket.{bucketOf}
 use Rattle.key.proofs.Buckets.{bucket-low}
 use Rattle.index.specs.declared.Index.{Index}
+use Rattle.index.specs.declared.Moved.{Moved}
+use Rattle.index.specs.Answers.{movedOf, tryDone, tryMoved}
 use Rattle.index.specs.Chain.{CHAIN, sized, nextOf, roomFrom, canInsert, linked, insertIndex, unlinked, removeFrom, removeIndex}
 use Rattle.index.proofs.Cases.{Sized}
 
@@ -55,3 +58,10 @@ pub remove-start : {b : ℕ} (c : ℕ) (ix : Index) (key : CacheKey) (t : ℕ) �
     → removeIndex c ix key t ≡ removeFrom CHAIN c ix b t NONE (getD (ix .heads) b 0)
 unfolding removeIndex
 remove-start {b} c ix key t y e = rw (y, e)
+
+-- an answer that is done carries the rule's index, whichever index a refusal would hand back
+pub moved-done : (ix : Index) (m : Moved) {x : Try Index} → x ≡ tryMoved m → m .answer ≡ Done.Done → m ≡ movedOf ix x
+moved-done ix m e d =
+    ap (λ (a : Done). record { index = m .index; answer = a }) d
+    ∙ sym (ap (λ (a : Done). movedOf ix (tryDone (m .index) a)) d)
+    ∙ ap (movedOf ix) (sym e)

@@ -1,12 +1,13 @@
 // SPDX-FileCopyrightText: 2026 roolrz
 // SPDX-License-Identifier: Apache-2.0
 
-// index.rs, the chains: whether one takes a slot, and a slot put in or taken out. Each function works on any value: where the Rust would stop, the
+// index.rs, the chains: whether one takes a slot, a slot put in or taken out, and one given up. Each function works on any value: where the Rust would stop, the
 // answer is the refusal 10 and the index is as it came.
 ghost use mathlib.Core.Path.{_≡_};
 ghost use Rattle.index.specs.declared.Index.{Index};
 ghost use Rattle.index.specs.Answers.{movedOf, roomAnswer};
 ghost use Rattle.index.specs.Chain.{CHAIN, roomFrom, canInsert, insertIndex, removeIndex};
+ghost use Rattle.index.specs.Free.{vacate as vacateIndex};
 use basics::Done;
 use basics::NO_SLOT;
 use basics::NONE;
@@ -128,6 +129,30 @@ pub fn remove(mut index: Index, capacity: usize, key: CacheKey, target: usize) -
         index: index,
         answer: Done::Refused(STOP),
     }
+}
+
+// A slot's key leaves its chain, and the slot goes onto the stack.
+pub fn vacate(capacity: usize, index: Index, key: CacheKey, slot: usize) -> Moved
+    ensures { λ r. ⌜ r ≡ movedOf index (vacateIndex capacity index key slot) ⌝ }
+{
+    let cut = remove(index, capacity, key, slot);
+    let answer = cut.answer;
+    if let Done::Refused(why) = answer {
+        return Moved {
+            index: index,
+            answer: Done::Refused(why),
+        };
+    }
+    let rest = cut.index;
+    let freed = rest.release(capacity, slot);
+    let last = freed.answer;
+    if let Done::Refused(why) = last {
+        return Moved {
+            index: index,
+            answer: Done::Refused(why),
+        };
+    }
+    freed
 }
 
 // Whether the chain from `slot` on ends before the steps do. Only the links of the index are lent: by value it would be copied.

@@ -13,12 +13,12 @@ use Rattle.key.specs.declared.CacheKey.{CacheKey}
 use Rattle.key.specs.Bucket.{bucketOf}
 use Rattle.index.specs.declared.Index.{Index}
 use Rattle.index.specs.Chain.{removeIndex}
+use Rattle.index.specs.Free.{vacate}
 use Rattle.eviction.specs.declared.EvictionHeap.{EvictionHeap}
 use Rattle.eviction.specs.Heap.{removeHeap}
 use Rattle.state.specs.declared.Slot.{Slot}
 use Rattle.state.specs.declared.State.{State}
 use Rattle.state.specs.Slots.{slotAt, vacantSlot, isLoading, isClean, occupied}
-use Rattle.state.specs.Parts.{vacate}
 use Rattle.laws_table.specs.Heap.{Heaped, Holds}
 use Rattle.laws_table.specs.Table.{bucketFor, bucketIn, lastIn, Parts, Inv, Step}
 use Rattle.laws_table.proofs.Sifts.{Sifted}

@@ -5,11 +5,12 @@ use lib.Dec.{ltb}
 use Rattle.basics.specs.Try.{Try, ok, _>>=_, _>>_, need}
 use Rattle.basics.specs.Refusals.{STOP, SLOT, UNCLEAN}
 use Rattle.basics.specs.Answers.{Fine, done}
+use Rattle.index.specs.Free.{vacate}
 use Rattle.eviction.specs.Heap.{removeHeap}
 use Rattle.state.specs.declared.Counters.{Counters}
 use Rattle.state.specs.declared.State.{State}
 use Rattle.state.specs.Slots.{slotAt, isClean, vacantSlot}
-use Rattle.state.specs.Parts.{withSlot, withIndex, withHeap, withCounters, withHeld, countEviction, vacate}
+use Rattle.state.specs.Parts.{withSlot, withIndex, withHeap, withCounters, withHeld, countEviction}
 use Rattle.state.specs.Answers.{After, told, unlessRefused}
 use Rattle.state.specs.Fresh.{sound}
 

@@ -6,7 +6,7 @@ use Rattle.basics.specs.Lists.{down, keep, every, some?, first, eachSlot}
 use Rattle.key.specs.Key.{sameKey}
 use Rattle.key.specs.Bucket.{bucketOf, bucketCount, countFor}
 use Rattle.index.specs.Chain.{sizes, roomFrom, canInsert, insertIndex, unlinked, removeFrom, removeIndex}
-use Rattle.index.specs.Free.{topVacant, takeVacant, releaseIndex}
+use Rattle.index.specs.Free.{topVacant, takeVacant, releaseIndex, vacate}
 use Rattle.index.specs.Fresh.{freshIndex, noIndex, newIndex}
 use Rattle.eviction.specs.Entries.{older, freshHeap, noHeap, newHeap}
 use Rattle.eviction.specs.Entries as heap-entries
@@ -14,7 +14,6 @@ use Rattle.eviction.specs.Sift.{swapped, upTo, childOf, downTo, siftFrom}
 use Rattle.eviction.specs.Heap.{insertHeap, placeOf, touchAt, touchHeap, popped, putAt, settle, removeAt, removeHeap}
 use Rattle.eviction.specs.Victim.{candidateAt, oldestOf, victimFrom, victimOf}
 use Rattle.state.specs.Slots.{occupied, cleanWith}
-use Rattle.state.specs.Parts.{vacate}
 use Rattle.state.specs.Fresh.{empty, fresh, noTable, new, soundSizes}
 use Rattle.state.specs.Find.{findFrom, findKey, touchNext, hitAt, seekAt, seek}
 use Rattle.state.specs.Victim.{victim, targetOr, target}

@@ -7,12 +7,13 @@ use Rattle.basics.specs.Refusals.{STOP, STALE, UNGIVEN}
 use Rattle.basics.specs.Numbers.{MAX}
 use Rattle.basics.specs.Answers.{Fine, done}
 use Rattle.key.specs.Key.{sameKey}
+use Rattle.index.specs.Free.{vacate}
 use Rattle.eviction.specs.Heap.{insertHeap}
 use Rattle.state.specs.declared.Slot.{Slot}
 use Rattle.state.specs.declared.State.{State}
 use Rattle.state.specs.declared.LoadToken.{LoadToken}
 use Rattle.state.specs.Slots.{slotAt, isLoading, vacantSlot, cleanSlot}
-use Rattle.state.specs.Parts.{withSlot, withIndex, withHeap, withHeld, vacate}
+use Rattle.state.specs.Parts.{withSlot, withIndex, withHeap, withHeld}
 use Rattle.state.specs.Answers.{After, told, unlessRefused}
 use Rattle.state.specs.Fresh.{sound}
 

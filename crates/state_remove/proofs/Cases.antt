@@ -1,33 +1,24 @@
 -- What the proofs of the removals share: the ends of `detachCounted`, and that remove and detach are it. Assumes nothing.
 use Prim.Native.Nat.{ℕ, _-_, _<_}
-use mathlib.Core.Path.{_≡_, refl, sym, _∙_, ap}
+use mathlib.Core.Path.{_≡_, refl, sym, ap}
 use mathlib.Core.Bool.{true}
 use lib.Dec.{ltb, eqb}
 use borrow.Author.Tests.{lt-ltb, eq-eqb}
 use Rattle.basics.specs.Try.{Try, ok, refuse, _>>=_, _>>_}
 use Rattle.basics.specs.Refusals.{STOP}
 use Rattle.basics.specs.Answers.{Fine, done}
-use Rattle.basics.specs.declared.Done.{Done}
 use Rattle.basics.proofs.Tests.{no-ltb, some-ltb, met, went, ok-same, bind-same}
 use Rattle.index.specs.declared.Index.{Index}
-use Rattle.index.specs.declared.Moved.{Moved as IndexMoved}
-use Rattle.index.specs.Answers.{movedOf as indexMovedOf, tryDone as tryIndex, tryMoved as tryIndexMoved}
+use Rattle.index.specs.Free.{vacate}
 use Rattle.eviction.specs.declared.EvictionHeap.{EvictionHeap}
 use Rattle.eviction.specs.Heap.{removeHeap}
 use Rattle.state.specs.declared.Counters.{Counters}
 use Rattle.state.specs.declared.State.{State}
 use Rattle.state.specs.Slots.{slotAt, vacantSlot}
-use Rattle.state.specs.Parts.{withSlot, withIndex, withHeap, withCounters, withHeld, countEviction, vacate}
+use Rattle.state.specs.Parts.{withSlot, withIndex, withHeap, withCounters, withHeld, countEviction}
 use Rattle.state.specs.Answers.{After, told, unlessRefused}
 use Rattle.state.specs.Fresh.{sound}
 use Rattle.state.specs.Remove.{detachClean, removeClean, needClean, detachCounted, remove, detach}
-
--- an answer that is done carries the rule's index, whichever index a refusal would hand back
-pub index-done : (ix : Index) (m : IndexMoved) {x : Try Index} → x ≡ tryIndexMoved m → m .answer ≡ Done.Done → m ≡ indexMovedOf ix x
-index-done ix m e d =
-    ap (λ (a : Done). record { index = m .index; answer = a }) d
-    ∙ sym (ap (λ (a : Done). indexMovedOf ix (tryIndex (m .index) a)) d)
-    ∙ ap (indexMovedOf ix) (sym e)
 
 -- ---- `detachCounted`: its ends
 module _ (t : State) (slot : ℕ) (k : Counters) (y : sound t ≡ true) (l : slot < t .capacity) (clean : slotAt t slot .kind ≡ 2) where

@@ -13,7 +13,7 @@ use Rattle.key.specs.declared.CacheKey.{CacheKey}
 use Rattle.key.specs.Bucket.{bucketOf, bucketCount}
 use Rattle.index.specs.declared.Index.{Index}
 use Rattle.index.specs.Chain.{CHAIN, sized, headOf, nextOf, unlinked, removeFrom, removeIndex}
-use Rattle.index.specs.Free.{releaseIndex}
+use Rattle.index.specs.Free.{releaseIndex, vacate}
 use Rattle.index.proofs.Cases.{has-sizes}
 use Rattle.eviction.specs.declared.EvictionHeap.{EvictionHeap}
 use Rattle.eviction.specs.Entries.{at}
@@ -21,7 +21,6 @@ use Rattle.eviction.specs.Sift.{swapped, upTo, downTo, siftFrom}
 use Rattle.eviction.specs.Heap.{popped, putAt, placeOf, settle, removeAt, removeHeap}
 use Rattle.state.specs.declared.State.{State}
 use Rattle.state.specs.Slots.{slotAt, isClean}
-use Rattle.state.specs.Parts.{vacate}
 use Rattle.state.specs.Fresh.{sound, soundSizes}
 use Rattle.state.specs.Remove.{detachClean, removeClean}
 use Rattle.state.proofs.Cases.{sound-sizes}

@@ -5,40 +5,12 @@
 // not. Every call works on any table; a refusal hands the table back as it came.
 ghost use mathlib.Core.Path.{_≡_};
 ghost use Rattle.basics.specs.Try.{refuse};
-ghost use Rattle.index.specs.Answers.{movedOf as indexMovedOf};
-ghost use Rattle.state.specs.Parts.{vacate as vacateIndex};
 ghost use Rattle.state.specs.Answers.{finishedAfter};
 ghost use Rattle.state.specs.Remove.{detachCounted, detach, remove};
 use basics::Done;
-use index::Index;
-use key::CacheKey;
 use state::Counters;
 use state::Finished;
 use state::State;
-
-// A slot's key leaves its chain, and the slot goes onto the stack; on the index alone.
-pub fn vacate(capacity: usize, index: Index, key: CacheKey, slot: usize) -> index::Moved
-    ensures { λ r. ⌜ r ≡ indexMovedOf index (vacateIndex capacity index key slot) ⌝ }
-{
-    let cut = index_chains::remove(index, capacity, key, slot);
-    let answer = cut.answer;
-    if let Done::Refused(why) = answer {
-        return index::Moved {
-            index: index,
-            answer: Done::Refused(why),
-        };
-    }
-    let rest = cut.index;
-    let freed = rest.release(capacity, slot);
-    let last = freed.answer;
-    if let Done::Refused(why) = last {
-        return index::Moved {
-            index: index,
-            answer: Done::Refused(why),
-        };
-    }
-    freed
-}
 
 fn refused(t: State, why: u8) -> Finished
     ensures { λ r. ⌜ finishedAfter r ≡ record { table = t; answer = refuse why } ⌝ }
@@ -76,7 +48,7 @@ fn detach_counted(mut t: State, slot: usize, counters: Counters) -> Finished
     }
     let index = t.index;
     let key = entry.key;
-    let vacated = vacate(t.capacity, index, key, slot);
+    let vacated = index_chains::vacate(t.capacity, index, key, slot);
     let freed = vacated.answer;
     if let Done::Refused(why) = freed {
         return refused(t, why);

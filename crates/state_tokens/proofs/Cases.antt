@@ -9,13 +9,14 @@ use Rattle.basics.specs.Numbers.{MAX}
 use Rattle.basics.specs.Answers.{done}
 use Rattle.basics.proofs.Tests.{no-ltb, some-ltb}
 use Rattle.index.specs.declared.Index.{Index}
+use Rattle.index.specs.Free.{vacate}
 use Rattle.eviction.specs.declared.EvictionHeap.{EvictionHeap}
 use Rattle.eviction.specs.Heap.{insertHeap}
 use Rattle.state.specs.declared.LoadToken.{LoadToken}
 use Rattle.state.specs.declared.Slot.{Slot}
 use Rattle.state.specs.declared.State.{State}
 use Rattle.state.specs.Slots.{vacantSlot, cleanSlot}
-use Rattle.state.specs.Parts.{withSlot, withIndex, withHeap, withHeld, vacate}
+use Rattle.state.specs.Parts.{withSlot, withIndex, withHeap, withHeld}
 use Rattle.state.specs.Answers.{told, unlessRefused}
 use Rattle.state.specs.Fresh.{sound}
 use Rattle.state.specs.Tokens.{outstanding, publish, abort}

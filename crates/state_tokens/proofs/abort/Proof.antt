@@ -2,7 +2,7 @@
 use mathlib.Core.Path.{sym, _∙_}
 use native.Mathlib.Omega.{arith}
 use Rattle.basics.proofs.Tests.{yes, no}
-use Rattle.state.specs.Parts.{vacate}
+use Rattle.index.specs.Free.{vacate}
 use Rattle.state.proofs.Cases.{sound-sizes, index-told, outstanding-out, outstanding-in}
 use Rattle.state_tokens.proofs.Cases.{abort-unsound, abort-stale, abort-kept, abort-none, aborts}
 use borrow.Author.Needs.{needs}

@@ -1,12 +1,11 @@
 -- `vacate` meets its contract: each return has what the index told. Assumes nothing.
 use Rattle.index.specs.Chain.{removeIndex}
-use Rattle.index.specs.Free.{releaseIndex}
+use Rattle.index.specs.Free.{releaseIndex, vacate}
 use Rattle.index.proofs.Cases.{moved-back}
-use Rattle.state_remove.proofs.Cases.{index-done}
-use Rattle.state.specs.Parts.{vacate}
+use Rattle.index_chains.proofs.Cases.{moved-done}
 use borrow.Author.Needs.{needs}
-use Rattle.state_remove.proofs.vacate.Statement.{statement}
-use Rattle.state_remove.proofs.vacate.Tie as tie
+use Rattle.index_chains.proofs.vacate.Statement.{statement}
+use Rattle.index_chains.proofs.vacate.Tie as tie
 
 returns : tie.Need-returns
 unfolding vacate
@@ -18,7 +17,7 @@ returns-2 c = rw (moved-back _ (removeIndex _ _ _ _) (c .before .before .before 
 
 returns-3 : tie.Need-returns-3
 unfolding vacate
-returns-3 c = rw (moved-back _ (removeIndex _ _ _ _) (c .before .before .before .before .before .before .remove .ensures), c .before .before .before .before .enum-told .given .1) (index-done _ _ (moved-back _ (releaseIndex _ _ _) (c .before .before .release .ensures)) (c .enum-told2 .given .1))
+returns-3 c = rw (moved-back _ (removeIndex _ _ _ _) (c .before .before .before .before .before .before .remove .ensures), c .before .before .before .before .enum-told .given .1) (moved-done _ _ (moved-back _ (releaseIndex _ _ _) (c .before .before .release .ensures)) (c .enum-told2 .given .1))
 
 pub vacate-spec : {M : Type 1} → statement M
 vacate-spec =
