@@ -33,9 +33,9 @@ use Rattle.eviction.specs.Victim.{unpinned}
 use Rattle.state.specs.declared.State.{State}
 use Rattle.state.specs.Slots.{slotAt, isClean, cleanSlot}
 use Rattle.state.specs.Parts.{withSlot, withIndex, withHeap, withHeld}
-use Rattle.maintenance_resize.specs.declared.Fit.{Fit}
-use Rattle.maintenance_resize.specs.declared.Restored.{Restored}
-use Rattle.maintenance_resize.specs.declared.Placed.{Placed}
+use Rattle.maintenance_resize.specs.declared.restore.Fit.{Fit}
+use Rattle.maintenance_resize.specs.declared.restore.Restored.{Restored}
+use Rattle.maintenance_resize.specs.declared.restore.Placed.{Placed}
 use Rattle.maintenance_resize.specs.Pins.{pinCount, pinsClean, raised}
 use Rattle.maintenance_resize.specs.Restore.{restoreInto, restore, andOn, restorePinned}
 use Rattle.maintenance_resize.specs.Parts.{Put, putInto, put, topPut, placedAnswer, fitAnswer, restoredAnswer}

@@ -27,7 +27,7 @@ use Rattle.maintenance_resize.specs.Move.{movingOf, leavePinned, dropOld
 use Rattle.maintenance_resize.specs.Resize.{listed, unlessRefused, freshStart, remakeOrBusy, resizeTo, resizeSteps, resize}
 use Rattle.maintenance_resize.proofs.Moves.{take-same}
 use Rattle.maintenance_resize.specs.Parts.{tried, oldAnswer, remadeAnswer}
-use Rattle.maintenance_resize.specs.declared.Listed.{Listed}
+use Rattle.maintenance_resize.specs.declared.remake.Listed.{Listed}
 
 -- ---- a rule's result, from what the code answered for it
 pub checked-told : {d e : Done} {x : Try Fine} → doneAnswer d ≡ x → d ≡ e → x ≡ doneAnswer e

@@ -15,10 +15,10 @@ use Rattle.state.specs.declared.State.{State}
 use Rattle.basics.specs.declared.Done.{Done}
 use Rattle.maintenance_resize.specs.Answers.{resized, Resizing}
 use Rattle.maintenance_resize.specs.Move.{Moving, movingOf}
-use Rattle.maintenance_resize.specs.declared.Fit.{Fit}
-use Rattle.maintenance_resize.specs.declared.Listed.{Listed}
-use Rattle.maintenance_resize.specs.declared.Placed.{Placed}
-use Rattle.maintenance_resize.specs.declared.Restored.{Restored}
+use Rattle.maintenance_resize.specs.declared.restore.Fit.{Fit}
+use Rattle.maintenance_resize.specs.declared.remake.Listed.{Listed}
+use Rattle.maintenance_resize.specs.declared.restore.Placed.{Placed}
+use Rattle.maintenance_resize.specs.declared.restore.Restored.{Restored}
 
 -- the slot that a restored key took, with index and heap after
 pub record Put : Type 0 where

@@ -1,4 +1,4 @@
--- `maintenance_resize::restore_rest` meets its contract: what is left to do is from the slot on. Assumes nothing.
+-- `maintenance_resize::remake::restore_rest` meets its contract: what is left to do is from the slot on. Assumes nothing.
 use Prim.Native.Nat.{ℕ, _-_}
 use mathlib.Core.Path.{_≡_}
 use mathlib.Core.List.{List}
@@ -8,8 +8,8 @@ use Rattle.state.proofs.Cases.{found-told}
 use Rattle.maintenance_resize.specs.Move.{movingOf, restoreRest}
 use Rattle.maintenance_resize.proofs.Cases.{all-left, restored-told}
 use Rattle.maintenance_resize.proofs.Moves.{each-end, each-on, each-stops, rest-unclean, rest-refused, rest-stops, rest-full, rest-restored, rest-there}
-use Rattle.maintenance_resize.proofs.restore_rest.Statement.{statement}
-use Rattle.maintenance_resize.proofs.restore_rest.Tie as tie
+use Rattle.maintenance_resize.proofs.remake.restore_rest.Statement.{statement}
+use Rattle.maintenance_resize.proofs.remake.restore_rest.Tie as tie
 
 abbrev Inv-loop : tie.InvT-loop
 Inv-loop old new₀ slot₀ new slot = (list : List ℕ) → eachSlot restoreRest (old .capacity - slot) slot (movingOf old new list) ≡ eachSlot restoreRest (old .capacity) 0 (movingOf old new₀ list)

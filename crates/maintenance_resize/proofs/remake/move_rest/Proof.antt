@@ -1,4 +1,4 @@
--- `maintenance_resize::move_rest` meets its contract: what is left to do is from the slot on, and the old table passes its first test throughout. Assumes nothing.
+-- `maintenance_resize::remake::move_rest` meets its contract: what is left to do is from the slot on, and the old table passes its first test throughout. Assumes nothing.
 use Prim.Native.Nat.{_-_}
 use mathlib.Core.Path.{_≡_, _∙_}
 use mathlib.Core.Bool.{true}
@@ -14,8 +14,8 @@ use Rattle.maintenance_resize.proofs.Cases.{all-left}
 use Rattle.state_remove.proofs.Kept.{remove-keeps}
 use Rattle.state_remove.proofs.Told.{remove-told}
 use Rattle.maintenance_resize.proofs.Moves.{each-end, each-on, each-stops, peek-low, move-unclean, move-refused, move-stops, move-removed, move-moved}
-use Rattle.maintenance_resize.proofs.move_rest.Statement.{statement}
-use Rattle.maintenance_resize.proofs.move_rest.Tie as tie
+use Rattle.maintenance_resize.proofs.remake.move_rest.Statement.{statement}
+use Rattle.maintenance_resize.proofs.remake.move_rest.Tie as tie
 
 abbrev Inv-loop : tie.InvT-loop
 Inv-loop new old₀ capacity list₀ slot₀ old list slot = (eachSlot moveRest (capacity - slot) slot (movingOf old new (take capacity list)) ≡ eachSlot moveRest capacity 0 (movingOf old₀ new (take capacity list₀))) × ((sound old ≡ true) × (old .capacity ≡ capacity))

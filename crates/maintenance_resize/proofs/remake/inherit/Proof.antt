@@ -1,8 +1,8 @@
--- `maintenance_resize::inherit` meets its contract. Assumes nothing.
+-- `maintenance_resize::remake::inherit` meets its contract. Assumes nothing.
 use mathlib.Core.Path.{refl}
 use Rattle.maintenance_resize.specs.Move.{inherit}
-use Rattle.maintenance_resize.proofs.inherit.Statement.{statement}
-use Rattle.maintenance_resize.proofs.inherit.Tie as tie
+use Rattle.maintenance_resize.proofs.remake.inherit.Statement.{statement}
+use Rattle.maintenance_resize.proofs.remake.inherit.Tie as tie
 
 returns : tie.Need-returns
 unfolding inherit

@@ -1,4 +1,4 @@
--- `maintenance_resize::drop_oldest` meets its contract: what is left to do is in the rounds left, and the table passes its first test throughout. Assumes nothing.
+-- `maintenance_resize::remake::drop_oldest` meets its contract: what is left to do is in the rounds left, and the table passes its first test throughout. Assumes nothing.
 use Prim.Native.Nat.{ℕ, _-_}
 use mathlib.Core.Path.{_≡_, refl, sym, _∙_}
 use mathlib.Core.Bool.{true}
@@ -11,8 +11,8 @@ use Rattle.maintenance_resize.specs.Move.{movingOf, dropOldest}
 use Rattle.state_remove.proofs.Kept.{remove-keeps}
 use Rattle.state_remove.proofs.Told.{remove-told}
 use Rattle.maintenance_resize.proofs.Moves.{drop-end, drop-fits, drop-none, drop-past, drop-unclean, drop-stops, drop-on}
-use Rattle.maintenance_resize.proofs.drop_oldest.Statement.{statement}
-use Rattle.maintenance_resize.proofs.drop_oldest.Tie as tie
+use Rattle.maintenance_resize.proofs.remake.drop_oldest.Statement.{statement}
+use Rattle.maintenance_resize.proofs.remake.drop_oldest.Tie as tie
 
 abbrev Inv-loop : tie.InvT-loop
 Inv-loop room old₀ left₀ old left = ((new : State) (list : List ℕ) → room ≡ new .capacity - new .clean → dropOldest left (movingOf old new list) ≡ dropOldest 257 (movingOf old₀ new list)) × ((sound old ≡ true) × (old .capacity ≡ old₀ .capacity))

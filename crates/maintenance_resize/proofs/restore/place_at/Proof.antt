@@ -1,4 +1,4 @@
--- `maintenance_resize::place_at` meets its contract. Assumes nothing.
+-- `maintenance_resize::restore::place_at` meets its contract. Assumes nothing.
 use borrow.Author.Needs.{needs}
 use Rattle.index.specs.Chain.{insertIndex}
 use Rattle.index.specs.Free.{takeVacant}
@@ -6,8 +6,8 @@ use Rattle.index.proofs.Cases.{moved-back}
 use Rattle.eviction.specs.Heap.{insertHeap}
 use Rattle.eviction.proofs.Cases.{moved-back as heap-back}
 use Rattle.maintenance_resize.specs.Parts.{putInto}
-use Rattle.maintenance_resize.proofs.place_at.Statement.{statement}
-use Rattle.maintenance_resize.proofs.place_at.Tie as tie
+use Rattle.maintenance_resize.proofs.restore.place_at.Statement.{statement}
+use Rattle.maintenance_resize.proofs.restore.place_at.Tie as tie
 
 returns : tie.Need-returns
 unfolding putInto

@@ -1,9 +1,9 @@
--- `maintenance_resize::raised` meets its contract. Assumes nothing.
+-- `maintenance_resize::pins::raised` meets its contract. Assumes nothing.
 use native.Mathlib.Omega.{arith}
 use borrow.Author.Needs.{needs}
 use Rattle.maintenance_resize.proofs.Cases.{raised-up, raised-not}
-use Rattle.maintenance_resize.proofs.raised.Statement.{statement}
-use Rattle.maintenance_resize.proofs.raised.Tie as tie
+use Rattle.maintenance_resize.proofs.pins.raised.Statement.{statement}
+use Rattle.maintenance_resize.proofs.pins.raised.Tie as tie
 
 returns : tie.Need-returns
 returns c = (raised-up _ _ (c .before .before .pin-count .ensures .0) (c .before .power-over .ensures .0) (c .if1 .taken), omega arith)

@@ -1,8 +1,8 @@
--- `maintenance_resize::place` meets its contract. Assumes nothing.
+-- `maintenance_resize::restore::place` meets its contract. Assumes nothing.
 use borrow.Author.Needs.{needs}
 use Rattle.maintenance_resize.specs.Parts.{putInto, put}
-use Rattle.maintenance_resize.proofs.place.Statement.{statement}
-use Rattle.maintenance_resize.proofs.place.Tie as tie
+use Rattle.maintenance_resize.proofs.restore.place.Statement.{statement}
+use Rattle.maintenance_resize.proofs.restore.place.Tie as tie
 
 returns : tie.Need-returns
 unfolding put

@@ -1,4 +1,4 @@
--- `maintenance_resize::pins_clean` meets its contract: what is left to test is from the slot on. Assumes nothing.
+-- `maintenance_resize::pins::pins_clean` meets its contract: what is left to test is from the slot on. Assumes nothing.
 use Prim.Native.Nat.{_-_, _≤_}
 use mathlib.Core.Path.{_≡_}
 use native.Mathlib.Omega.{arith}
@@ -6,8 +6,8 @@ use borrow.Author.Needs.{needs}
 use borrow.Author.Tests.{eq-eqb, ne-eqb}
 use Rattle.maintenance_resize.specs.Pins.{pinsClean}
 use Rattle.maintenance_resize.proofs.Cases.{all-left, clean-step, clean-end}
-use Rattle.maintenance_resize.proofs.pins_clean.Statement.{statement}
-use Rattle.maintenance_resize.proofs.pins_clean.Tie as tie
+use Rattle.maintenance_resize.proofs.pins.pins_clean.Statement.{statement}
+use Rattle.maintenance_resize.proofs.pins.pins_clean.Tie as tie
 
 abbrev Inv-loop : tie.InvT-loop
 Inv-loop pins t slot₀ slot = (pinsClean (t .capacity - slot) t pins slot ≡ pinsClean (t .capacity) t pins 0) × (slot ≤ t .capacity)

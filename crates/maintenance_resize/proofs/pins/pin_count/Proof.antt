@@ -1,4 +1,4 @@
--- `maintenance_resize::pin_count` meets its contract: the loop has counted the pins before place i. Assumes nothing.
+-- `maintenance_resize::pins::pin_count` meets its contract: the loop has counted the pins before place i. Assumes nothing.
 use Prim.Native.Nat.{_+_, _-_, _≤_}
 use mathlib.Core.Path.{_≡_}
 use mathlib.Core.Logic.{⊎-elim}
@@ -8,8 +8,8 @@ use borrow.Author.Needs.{needs}
 use borrow.Author.Tests.{eq-eqb, ne-eqb}
 use Rattle.maintenance_resize.specs.Pins.{pinCount}
 use Rattle.maintenance_resize.proofs.Cases.{pins-step, pins-end}
-use Rattle.maintenance_resize.proofs.pin_count.Statement.{statement}
-use Rattle.maintenance_resize.proofs.pin_count.Tie as tie
+use Rattle.maintenance_resize.proofs.pins.pin_count.Statement.{statement}
+use Rattle.maintenance_resize.proofs.pins.pin_count.Tie as tie
 
 abbrev Inv-loop : tie.InvT-loop
 Inv-loop pins n₀ i₀ n i = (n + pinCount (drop i pins) ≡ pinCount pins) × ((n ≤ i) × (i ≤ length pins))

@@ -1,10 +1,10 @@
--- `maintenance_resize::remake` meets its contract. Assumes nothing.
+-- `maintenance_resize::remake::remake` meets its contract. Assumes nothing.
 use mathlib.Core.Path.{_∙_}
 use borrow.Author.Needs.{needs}
 use Rattle.state.proofs.Cases.{sound-sizes}
 use Rattle.maintenance_resize.proofs.Resizes.{remake-unleft, remake-undropped, remake-unfilled, remake-unmoved, remake-done}
-use Rattle.maintenance_resize.proofs.remake.Statement.{statement}
-use Rattle.maintenance_resize.proofs.remake.Tie as tie
+use Rattle.maintenance_resize.proofs.remake.remake.Statement.{statement}
+use Rattle.maintenance_resize.proofs.remake.remake.Tie as tie
 
 returns : tie.Need-returns
 returns c = remake-unleft _ _ (c .before .before .leave-pinned .result) (c .before .before .leave-pinned .ensures .0) (c .enum-told .given .1)

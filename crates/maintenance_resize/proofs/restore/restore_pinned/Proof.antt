@@ -1,4 +1,4 @@
--- `maintenance_resize::restore_pinned` meets its contract: what is left to restore is from the slot on. Assumes nothing.
+-- `maintenance_resize::restore::restore_pinned` meets its contract: what is left to restore is from the slot on. Assumes nothing.
 use Prim.Native.Nat.{_-_, _≤_}
 use mathlib.Core.Path.{_≡_}
 use native.Mathlib.Omega.{arith}
@@ -6,8 +6,8 @@ use borrow.Author.Needs.{needs}
 use borrow.Author.Tests.{eq-eqb, ne-eqb}
 use Rattle.maintenance_resize.specs.Restore.{restorePinned}
 use Rattle.maintenance_resize.proofs.Cases.{all-left, restored-told, pinned-step, pinned-end}
-use Rattle.maintenance_resize.proofs.restore_pinned.Statement.{statement}
-use Rattle.maintenance_resize.proofs.restore_pinned.Tie as tie
+use Rattle.maintenance_resize.proofs.restore.restore_pinned.Statement.{statement}
+use Rattle.maintenance_resize.proofs.restore.restore_pinned.Tie as tie
 
 abbrev Inv-loop : tie.InvT-loop
 Inv-loop pins old new₀ slot₀ new slot = (restorePinned (old .capacity - slot) old pins slot new ≡ restorePinned (old .capacity) old pins 0 new₀) × (slot ≤ old .capacity)

@@ -1,4 +1,4 @@
--- `maintenance_resize::leave_pinned` meets its contract: what is left to do is from the slot on, and the old table passes its first test throughout. Assumes nothing.
+-- `maintenance_resize::remake::leave_pinned` meets its contract: what is left to do is from the slot on, and the old table passes its first test throughout. Assumes nothing.
 use Prim.Native.Nat.{_-_}
 use mathlib.Core.Path.{_≡_, _∙_}
 use mathlib.Core.Bool.{true}
@@ -15,8 +15,8 @@ use Rattle.maintenance_resize.proofs.Cases.{all-left}
 use Rattle.state_remove.proofs.Kept.{detach-keeps}
 use Rattle.state_remove.proofs.Told.{detach-told}
 use Rattle.maintenance_resize.proofs.Moves.{take-same, each-end, each-on, each-stops, peek-low, leave-unclean, leave-refused, leave-absent, leave-stops, leave-left}
-use Rattle.maintenance_resize.proofs.leave_pinned.Statement.{statement}
-use Rattle.maintenance_resize.proofs.leave_pinned.Tie as tie
+use Rattle.maintenance_resize.proofs.remake.leave_pinned.Statement.{statement}
+use Rattle.maintenance_resize.proofs.remake.leave_pinned.Tie as tie
 
 abbrev Inv-loop : tie.InvT-loop
 Inv-loop new old₀ capacity list₀ slot₀ old list slot = (eachSlot leavePinned (capacity - slot) slot (movingOf old new (take capacity list)) ≡ eachSlot leavePinned capacity 0 (movingOf old₀ new (replicate capacity NONE))) × ((sound old ≡ true) × (old .capacity ≡ capacity))
