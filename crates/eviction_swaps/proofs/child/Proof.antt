@@ -2,8 +2,8 @@
 use native.Mathlib.Omega.{arith}
 use borrow.Author.Needs.{needs}
 use Rattle.basics.proofs.Tests.{flag}
-use Rattle.eviction_sift.proofs.child.Statement.{statement}
-use Rattle.eviction_sift.proofs.child.Tie as tie
+use Rattle.eviction_swaps.proofs.child.Statement.{statement}
+use Rattle.eviction_swaps.proofs.child.Tie as tie
 
 returns : tie.Need-returns
 returns c = (rw (flag (c .before .older-than .ensures) (c .if1 .taken)), omega arith)

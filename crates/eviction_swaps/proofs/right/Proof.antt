@@ -2,8 +2,8 @@
 use native.Mathlib.Omega.{arith}
 use borrow.Author.Needs.{needs}
 use Rattle.basics.proofs.Tests.{tests}
-use Rattle.eviction_sift.proofs.right.Statement.{statement}
-use Rattle.eviction_sift.proofs.right.Tie as tie
+use Rattle.eviction_swaps.proofs.right.Statement.{statement}
+use Rattle.eviction_swaps.proofs.right.Tie as tie
 
 returns : tie.Need-returns
 returns c = (search tests, omega arith)
