@@ -129,7 +129,7 @@ fn low_8(bytes: &[u8], at: usize) -> u64 {
 fn read_words(bytes: &[u8], from: usize, list: &mut [u16], count: usize) -> usize {
     let mut at = from;
     let mut i: usize = 0;
-    let mut left = picture::least(count, list.len());
+    let mut left = picture_numbers::least(count, list.len());
     while 0 < left {
         list[i] = low_2(bytes, at) as u16;
         at = over(at, 2);
@@ -157,7 +157,7 @@ fn read_slots(bytes: &[u8], from: usize, count: usize) -> Slots {
     let mut slots: [Slot; 256] = [vacant; 256];
     let mut at = from;
     let mut i: usize = 0;
-    let mut left = picture::least(count, 256);
+    let mut left = picture_numbers::least(count, 256);
     while 0 < left {
         let key = read_key(bytes, over(at, 1));
         slots[i] = Slot {
@@ -199,7 +199,7 @@ fn read_entries(bytes: &[u8], from: usize, count: usize) -> Entries {
     let mut entries: [Entry; 256] = [none; 256];
     let mut at = from;
     let mut i: usize = 0;
-    let mut left = picture::least(count, 256);
+    let mut left = picture_numbers::least(count, 256);
     while 0 < left {
         entries[i] = Entry {
             slot: low_2(bytes, at) as u16,
@@ -282,7 +282,7 @@ fn read_case(bytes: &[u8]) -> Case {
     let number = low_8(bytes, 6) as usize;
     let key = read_key(bytes, 14);
     let token = LoadToken {
-        slot: picture::least(number, basics::NO_SLOT) as u16,
+        slot: picture_numbers::least(number, basics::NO_SLOT) as u16,
         generation: low_8(bytes, 31),
         key: key,
         access_sequence: low_8(bytes, 39),
@@ -307,20 +307,20 @@ fn read_case(bytes: &[u8]) -> Case {
 fn put_numbered(out: &mut [u8], at: usize, word: &[u8], number: usize, more: usize) -> usize
     ensures { λ r. ⌜ Within r (now (out .entry)) (now (out .exit)) ⌝ }
 {
-    let a = picture::put_text(out, at, b" ");
-    let b = picture::put_text(out, a, word);
-    let c = picture::put(out, b, number as u64);
-    picture::put(out, c, more as u64)
+    let a = picture_numbers::put_text(out, at, b" ");
+    let b = picture_numbers::put_text(out, a, word);
+    let c = picture_numbers::put(out, b, number as u64);
+    picture_numbers::put(out, c, more as u64)
 }
 
 // A word that has none.
 fn put_word(out: &mut [u8], at: usize, word: &[u8], more: usize) -> usize
     ensures { λ r. ⌜ Within r (now (out .entry)) (now (out .exit)) ⌝ }
 {
-    let a = picture::put_text(out, at, b" ");
-    let b = picture::put_text(out, a, word);
-    let c = picture::put_text(out, b, b" -");
-    picture::put(out, c, more as u64)
+    let a = picture_numbers::put_text(out, at, b" ");
+    let b = picture_numbers::put_text(out, a, word);
+    let c = picture_numbers::put_text(out, b, b" -");
+    picture_numbers::put(out, c, more as u64)
 }
 
 fn put_refused(out: &mut [u8], at: usize, why: u8, more: usize) -> usize
@@ -351,9 +351,9 @@ fn put_found(out: &mut [u8], at: usize, answer: Found, word: &[u8]) -> usize
 fn put_key(out: &mut [u8], at: usize, key: CacheKey) -> usize
     ensures { λ r. ⌜ Within r (now (out .entry)) (now (out .exit)) ⌝ }
 {
-    let a = picture::put(out, at, key.file);
-    let b = picture::put(out, a, wide(key.kind));
-    picture::put(out, b, key.index)
+    let a = picture_numbers::put(out, at, key.file);
+    let b = picture_numbers::put(out, a, wide(key.kind));
+    picture_numbers::put(out, b, key.index)
 }
 
 fn put_entry(out: &mut [u8], at: usize, slot: usize, answer: CleanEntry) -> usize
@@ -363,7 +363,7 @@ fn put_entry(out: &mut [u8], at: usize, slot: usize, answer: CleanEntry) -> usiz
         CleanEntry::Entry(key, last_access) => {
             let a = put_numbered(out, at, b"found", slot, 4);
             let b = put_key(out, a, key);
-            picture::put(out, b, last_access)
+            picture_numbers::put(out, b, last_access)
         }
         CleanEntry::Nothing => put_word(out, at, b"none", 0),
         CleanEntry::Refused(why) => put_refused(out, at, why, 0),
@@ -377,10 +377,10 @@ fn put_token(out: &mut [u8], at: usize, word: &[u8], token: LoadToken) -> usize
     let key = token.key;
     let slot = basics::wide(token.slot);
     let a = put_numbered(out, at, word, slot, 6);
-    let b = picture::put(out, a, slot as u64);
-    let c = picture::put(out, b, token.generation);
+    let b = picture_numbers::put(out, a, slot as u64);
+    let c = picture_numbers::put(out, b, token.generation);
     let d = put_key(out, c, key);
-    picture::put(out, d, token.access_sequence)
+    picture_numbers::put(out, d, token.access_sequence)
 }
 
 fn put_access(out: &mut [u8], at: usize, answer: Access) -> usize
@@ -434,12 +434,12 @@ fn run_resize(
 ) -> Ran
     ensures { λ r. ⌜ Within (r .at) (now (out .entry)) (now (out .exit)) ⌝ }
 {
-    let places = picture::least(count, list.len());
+    let places = picture_numbers::least(count, list.len());
     let maintained = maintenance_resize::resize(t, asked, pins, &mut list[..places]);
     let answer = maintained.answer;
     let next = maintained.state;
     let a = put_maintenance(out, at, answer, places);
-    let b = picture::put_words(out, a, &list[..], places);
+    let b = picture_numbers::put_words(out, a, &list[..], places);
     Ran { state: next, at: b }
 }
 
@@ -452,7 +452,7 @@ fn run_reclaim(out: &mut [u8], at: usize, t: State, limit: usize, pins: &[u8]) -
     let next = batch.state;
     let slots = batch.slots;
     let a = put_reclaimed(out, at, answer, batch.count);
-    let b = picture::put_words(out, a, &slots, 64);
+    let b = picture_numbers::put_words(out, a, &slots, 64);
     Ran { state: next, at: b }
 }
 
@@ -557,12 +557,12 @@ fn run(out: &mut [u8], at: usize, case: Case, pins: &[u8]) -> Ran
 fn put_case(out: &mut [u8], at: usize, number: u64, case: Case, pins: &[u8]) -> usize
     ensures { λ r. ⌜ Within r (now (out .entry)) (now (out .exit)) ⌝ }
 {
-    let a = picture::digits(out, at, number);
+    let a = picture_numbers::digits(out, at, number);
     let ran = run(out, a, case, pins);
     let t = ran.state;
     let b = picture::put_table(out, ran.at, t);
     let c = picture::put_past(out, b, t);
-    picture::put_text(out, c, b"\n")
+    picture_numbers::put_text(out, c, b"\n")
 }
 
 // Whether there is such a call.
@@ -587,19 +587,19 @@ fn take_case(out: &mut [u8], at: usize, number: u64, bytes: &[u8]) -> Taken
     if bytes.len() < end {
         return Taken {
             used: 0,
-            written: picture::put_text(out, at, b""),
+            written: picture_numbers::put_text(out, at, b""),
         };
     }
     if end < from {
         return Taken {
             used: 0,
-            written: picture::put_text(out, at, b""),
+            written: picture_numbers::put_text(out, at, b""),
         };
     }
     if !known(case.code) {
         return Taken {
             used: 0,
-            written: picture::put_text(out, at, b""),
+            written: picture_numbers::put_text(out, at, b""),
         };
     }
     let pins = &bytes[from..end];
@@ -614,8 +614,8 @@ fn wait(bytes: &mut [u8], from: usize, end: usize) -> Waiting
     ensures { λ r. ⌜ (r .at ≤ r .have) × (r .have ≤ length (now (bytes .entry))) ⌝ }
     ensures { λ r. ⌜ length (now (bytes .exit)) ≡ length (now (bytes .entry)) ⌝ }
 {
-    let have = picture::least(end, bytes.len());
-    let mut at = picture::least(from, have);
+    let have = picture_numbers::least(end, bytes.len());
+    let mut at = picture_numbers::least(from, have);
     if LONGEST <= have - at {
         return Waiting {
             at: at,
@@ -648,17 +648,17 @@ fn run_all(bytes: &mut [u8], out: &mut [u8]) {
         left -= 1;
         let waiting = wait(bytes, from, end);
         if waiting.failed {
-            picture::flush(out, written, 0);
+            picture_numbers::flush(out, written, 0);
             return;
         }
         let at = waiting.at;
         let have = waiting.have;
         let taken = take_case(out, written, number, &bytes[at..have]);
         if taken.used == 0 {
-            picture::flush(out, taken.written, 0);
+            picture_numbers::flush(out, taken.written, 0);
             return;
         }
-        let waits = picture::flush(out, taken.written, FULL);
+        let waits = picture_numbers::flush(out, taken.written, FULL);
         if waits.failed {
             return;
         }

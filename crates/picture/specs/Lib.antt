@@ -1,3 +1,1 @@
-pub mod Wrote
-pub mod Numbers
 pub mod Table

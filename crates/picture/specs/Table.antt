@@ -7,10 +7,7 @@ use Rattle.eviction.specs.declared.EvictionHeap.{EvictionHeap}
 use Rattle.index.specs.declared.Index.{Index}
 use Rattle.state.specs.declared.Slot.{Slot}
 use Rattle.state.specs.declared.State.{State}
-use Rattle.picture.specs.Numbers.{below, past}
-
-abbrev pub wordNumbers : ℕ → List ℕ
-wordNumbers n = n ∷ []
+use Rattle.picture_numbers.specs.Numbers.{wordNumbers, below, past}
 
 -- "kind .., file, key's kind, index, generation, last_access"
 abbrev pub slotNumbers : Slot → List ℕ

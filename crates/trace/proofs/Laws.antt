@@ -10,7 +10,7 @@ use Rattle.sheet_lines.specs.declared.Said.{Said}
 use Rattle.sheet_lines.specs.Text.{NEWLINE}
 use Rattle.sheet_lines.specs.Words.{isBad, lineOf}
 use Rattle.sheet_steps.specs.declared.Standing.{Standing}
-use Rattle.picture.specs.Numbers.{spaced}
+use Rattle.picture_numbers.specs.Numbers.{spaced}
 use Rattle.trace.specs.Record.{front, standingNumbers, recordText}
 
 pub front-none : (l : List ℕ) (from : ℕ) → length l ≤ from → [] ≡ front (drop from l)

@@ -7,8 +7,8 @@ use Rattle.sheet_lines.specs.declared.Said.{Said}
 use Rattle.sheet_lines.specs.Text.{NEWLINE}
 use Rattle.sheet_lines.specs.Words.{isBad, lineOf}
 use Rattle.sheet_steps.specs.declared.Standing.{Standing}
-use Rattle.picture.specs.Numbers.{spaced, past}
-use Rattle.picture.specs.Table.{wordNumbers, tableNumbers, pastNumbers}
+use Rattle.picture_numbers.specs.Numbers.{wordNumbers, spaced, past}
+use Rattle.picture.specs.Table.{tableNumbers, pastNumbers}
 
 -- a line without its end
 unfoldable pub front : List ℕ → List ℕ

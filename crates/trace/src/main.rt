@@ -3,9 +3,9 @@
 ghost use mathlib.Core.Path.{_≡_};
 ghost use lib.ListN.{length, drop};
 ghost use Rattle.sheet_lines.specs.Words.{textOf};
-ghost use Rattle.picture.specs.Wrote.{Wrote};
+ghost use Rattle.picture_numbers.specs.Wrote.{Wrote};
 ghost use Rattle.trace.specs.Record.{front, standingNumbers, recordText};
-ghost use Rattle.picture.specs.Numbers.{spaced};
+ghost use Rattle.picture_numbers.specs.Numbers.{spaced};
 use sheet_lines::Line;
 use sheet_lines::Said;
 use sheet_steps::Standing;
@@ -25,10 +25,10 @@ fn put_but_last(out: &mut [u8], at: usize, text: &[u8], from: usize) -> usize
     ensures { λ r. ⌜ Wrote (now (out .entry)) at (front (drop from (now (text .entry)))) r (now (out .exit)) ⌝ }
 {
     if text.len() <= from {
-        return picture::put_text(out, at, b"");
+        return picture_numbers::put_text(out, at, b"");
     }
     let end = text.len() - 1;
-    picture::put_text(out, at, &text[from..end])
+    picture_numbers::put_text(out, at, &text[from..end])
 }
 
 // A line without its end.
@@ -68,9 +68,9 @@ fn put_standing(out: &mut [u8], at: usize, s: Standing) -> usize
     let bytes = s.pins;
     let pins = pin_words(bytes);
     let a = picture::put_table(out, at, t);
-    let b = picture::put_words(out, a, &pins, t.capacity);
+    let b = picture_numbers::put_words(out, a, &pins, t.capacity);
     let c = picture::put_past(out, b, t);
-    picture::put_words_past(out, c, &pins, t.capacity)
+    picture_numbers::put_words_past(out, c, &pins, t.capacity)
 }
 
 // The text of a record: its line, and but for a bad one what stands after it.
@@ -81,10 +81,10 @@ fn put_record(out: &mut [u8], at: usize, number: u64, said: Said, s: Standing) -
     let line = sheet_lines::line_of(number, said, t.clean, t.loading);
     let a = put_line(out, at, line);
     if sheet_lines::is_bad(said) {
-        return picture::put_text(out, a, b"\n");
+        return picture_numbers::put_text(out, a, b"\n");
     }
     let b = put_standing(out, a, s);
-    picture::put_text(out, b, b"\n")
+    picture_numbers::put_text(out, b, b"\n")
 }
 
 // The records of a block.
@@ -101,14 +101,14 @@ fn run(standing: Standing, first: u64, bytes: &[u8], out: &mut [u8]) -> Ran
         s = stepped.standing;
         written = put_record(out, written, number, said, s);
         if sheet_lines::is_bad(said) {
-            picture::flush(out, written, 0);
+            picture_numbers::flush(out, written, 0);
             return Ran {
                 standing: s,
                 number: number,
                 ended: true,
             };
         }
-        let waits = picture::flush(out, written, FULL);
+        let waits = picture_numbers::flush(out, written, FULL);
         if waits.failed {
             return Ran {
                 standing: s,
@@ -118,9 +118,9 @@ fn run(standing: Standing, first: u64, bytes: &[u8], out: &mut [u8]) -> Ran
         }
         written = waits.count;
         number = basics::one_more(number);
-        at += picture::least(bytes.len() - at, sheet_lines::RECORD);
+        at += picture_numbers::least(bytes.len() - at, sheet_lines::RECORD);
     }
-    let last = picture::flush(out, written, 0);
+    let last = picture_numbers::flush(out, written, 0);
     Ran {
         standing: s,
         number: number,

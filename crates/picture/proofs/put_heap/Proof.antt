@@ -1,9 +1,9 @@
 -- `picture::put_heap` meets its contract. Assumes nothing.
 use mathlib.Core.Path.{_∙_}
 use borrow.Author.Needs.{needs}
-use Rattle.picture.specs.Numbers.{below}
+use Rattle.picture_numbers.specs.Numbers.{below}
 use Rattle.picture.specs.Table.{heapNumbers}
-use Rattle.picture.proofs.Laws.{numbers-joined}
+use Rattle.picture_numbers.proofs.Laws.{numbers-joined}
 use Rattle.picture.proofs.put_heap.Statement.{statement}
 use Rattle.picture.proofs.put_heap.Tie as tie
 

@@ -1,7 +1,7 @@
 -- `picture::put_past` meets its contract. Assumes nothing.
 use mathlib.Core.Path.{_∙_}
 use Rattle.picture.specs.Table.{pastNumbers}
-use Rattle.picture.proofs.Laws.{numbers-joined}
+use Rattle.picture_numbers.proofs.Laws.{numbers-joined}
 use Rattle.picture.proofs.put_past.Statement.{statement}
 use Rattle.picture.proofs.put_past.Tie as tie
 

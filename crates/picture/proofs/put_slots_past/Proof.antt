@@ -4,9 +4,9 @@ use mathlib.Core.List.{[], _∷_}
 use native.Mathlib.Omega.{arith}
 use lib.ListN.{length, take, drop}
 use borrow.Author.Needs.{needs}
-use Rattle.picture.specs.Numbers.{spaced, told}
+use Rattle.picture_numbers.specs.Numbers.{spaced, told}
 use Rattle.picture.specs.Table.{slotNumbers}
-use Rattle.picture.proofs.Laws.{wrote-as, numbers-joined, past-none, past-some, mapped}
+use Rattle.picture_numbers.proofs.Laws.{wrote-as, numbers-joined, past-none, past-some, mapped}
 use mathlib.Core.Bool.{false}
 use Rattle.picture.proofs.put_slots_past.Statement.{statement}
 use Rattle.picture.proofs.put_slots_past.Tie as tie

@@ -4,7 +4,7 @@ use lib.ListN.{length}
 use native.Mathlib.Omega.{arith}
 use borrow.Author.Needs.{needs}
 use Rattle.picture.specs.Table.{entryNumbers}
-use Rattle.picture.proofs.Laws.{Walking, walk-start, walk-on, walk-end, mapped}
+use Rattle.picture_numbers.proofs.Laws.{Walking, walk-start, walk-on, walk-end, mapped}
 use Rattle.picture.proofs.walk_entries.Statement.{statement}
 use Rattle.picture.proofs.walk_entries.Tie as tie
 

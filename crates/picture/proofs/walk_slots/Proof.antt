@@ -5,7 +5,7 @@ use native.Mathlib.Omega.{arith}
 use borrow.Author.Needs.{needs}
 use Rattle.state.specs.Slots.{vacantSlot}
 use Rattle.picture.specs.Table.{slotNumbers}
-use Rattle.picture.proofs.Laws.{Walking, walk-start, walk-on, walk-end, mapped}
+use Rattle.picture_numbers.proofs.Laws.{Walking, walk-start, walk-on, walk-end, mapped}
 use Rattle.picture.proofs.walk_slots.Statement.{statement}
 use Rattle.picture.proofs.walk_slots.Tie as tie
 

@@ -2,7 +2,7 @@
 use mathlib.Core.Path.{refl}
 use native.Mathlib.Omega.{arith}
 use borrow.Author.Needs.{needs}
-use Rattle.picture.proofs.Laws.{wrote-as}
+use Rattle.picture_numbers.proofs.Laws.{wrote-as}
 use Rattle.trace.proofs.Laws.{front-none, front-part}
 use Rattle.trace.proofs.put_but_last.Statement.{statement}
 use Rattle.trace.proofs.put_but_last.Tie as tie

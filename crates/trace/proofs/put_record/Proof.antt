@@ -3,7 +3,7 @@ use mathlib.Core.Path.{ap}
 use borrow.Author.Needs.{needs}
 use Rattle.basics.proofs.Tests.{flag}
 use Rattle.trace.specs.Record.{front}
-use Rattle.picture.proofs.Laws.{wrote-as, joined}
+use Rattle.picture_numbers.proofs.Laws.{wrote-as, joined}
 use Rattle.trace.proofs.Laws.{record-bad, record-good}
 use Rattle.trace.proofs.put_record.Statement.{statement}
 use Rattle.trace.proofs.put_record.Tie as tie

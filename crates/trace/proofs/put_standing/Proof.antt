@@ -2,10 +2,9 @@
 use mathlib.Core.Path.{ap}
 use lib.ListN.{take}
 use borrow.Author.Needs.{needs}
-use Rattle.picture.specs.Numbers.{spaced, past}
-use Rattle.picture.specs.Table.{wordNumbers}
+use Rattle.picture_numbers.specs.Numbers.{wordNumbers, spaced, past}
 use Rattle.trace.specs.Record.{standingNumbers}
-use Rattle.picture.proofs.Laws.{wrote-as, numbers-joined}
+use Rattle.picture_numbers.proofs.Laws.{wrote-as, numbers-joined}
 use Rattle.trace.proofs.put_standing.Statement.{statement}
 use Rattle.trace.proofs.put_standing.Tie as tie
 

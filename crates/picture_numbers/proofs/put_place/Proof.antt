@@ -1,13 +1,13 @@
--- `picture::put_place` meets its contract. Assumes nothing.
+-- `picture_numbers::put_place` meets its contract. Assumes nothing.
 use mathlib.Core.Path.{_∙_, sym, ap}
 use mathlib.Core.List.{[], _∷_}
 use native.Mathlib.Omega.{arith}
 use borrow.Author.Needs.{needs}
 use Rattle.basics.proofs.Tests.{flag}
-use Rattle.picture.specs.Numbers.{spaced}
-use Rattle.picture.proofs.Laws.{wrote-as, no-numbers, numbers-joined, placed-all, placed-none, placed-one}
-use Rattle.picture.proofs.put_place.Statement.{statement}
-use Rattle.picture.proofs.put_place.Tie as tie
+use Rattle.picture_numbers.specs.Numbers.{spaced}
+use Rattle.picture_numbers.proofs.Laws.{wrote-as, no-numbers, numbers-joined, placed-all, placed-none, placed-one}
+use Rattle.picture_numbers.proofs.put_place.Statement.{statement}
+use Rattle.picture_numbers.proofs.put_place.Tie as tie
 
 all-zero-requires : tie.Need-all-zero-requires
 all-zero-requires c κs = tt

@@ -1,9 +1,9 @@
--- `picture::put` meets its contract. Assumes nothing.
+-- `picture_numbers::put` meets its contract. Assumes nothing.
 use mathlib.Core.Path.{_∙_}
 use borrow.Author.Needs.{needs}
-use Rattle.picture.proofs.Laws.{joined, wrote-as, spaced-one}
-use Rattle.picture.proofs.put.Statement.{statement}
-use Rattle.picture.proofs.put.Tie as tie
+use Rattle.picture_numbers.proofs.Laws.{joined, wrote-as, spaced-one}
+use Rattle.picture_numbers.proofs.put.Statement.{statement}
+use Rattle.picture_numbers.proofs.put.Tie as tie
 
 put-text-requires : tie.Need-put-text-requires
 put-text-requires c κs = tt

@@ -1,12 +1,12 @@
--- `picture::walk_words` meets its contract. The invariant is `Walking`. Assumes nothing.
+-- `picture_numbers::walk_words` meets its contract. The invariant is `Walking`. Assumes nothing.
 use mathlib.Core.Path.{ap}
 use mathlib.Core.List.{[], _∷_}
 use native.Mathlib.Omega.{arith}
 use borrow.Author.Needs.{needs}
-use Rattle.picture.specs.Table.{wordNumbers}
-use Rattle.picture.proofs.Laws.{Walking, walk-start, walk-on, walk-end}
-use Rattle.picture.proofs.walk_words.Statement.{statement}
-use Rattle.picture.proofs.walk_words.Tie as tie
+use Rattle.picture_numbers.specs.Numbers.{wordNumbers}
+use Rattle.picture_numbers.proofs.Laws.{Walking, walk-start, walk-on, walk-end}
+use Rattle.picture_numbers.proofs.walk_words.Statement.{statement}
+use Rattle.picture_numbers.proofs.walk_words.Tie as tie
 
 abbrev Inv-loop : tie.InvT-loop
 Inv-loop out₀ at list from count bare i₀ left₀ to₀ out i left to = Walking wordNumbers bare list out₀ (to₀ .at) i₀ left₀ out (to .at) (to .held) i left

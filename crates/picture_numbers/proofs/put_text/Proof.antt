@@ -1,13 +1,13 @@
--- `picture::put_text` meets its contract. The invariant: what is left of the text, written from the place reached, makes the whole; and so many bytes
+-- `picture_numbers::put_text` meets its contract. The invariant: what is left of the text, written from the place reached, makes the whole; and so many bytes
 -- are left as there is text and room for. Assumes nothing.
 use Prim.Native.Nat.{_+_, _-_, _≤_, min}
 use mathlib.Core.Path.{_≡_}
 use native.Mathlib.Omega.{arith}
 use lib.ListN.{length, drop, length-set}
 use borrow.Author.Needs.{needs}
-use Rattle.picture.proofs.Laws.{Leads, no-room, text-on, text-end}
-use Rattle.picture.proofs.put_text.Statement.{statement}
-use Rattle.picture.proofs.put_text.Tie as tie
+use Rattle.picture_numbers.proofs.Laws.{Leads, no-room, text-on, text-end}
+use Rattle.picture_numbers.proofs.put_text.Statement.{statement}
+use Rattle.picture_numbers.proofs.put_text.Tie as tie
 
 abbrev Inv-loop : tie.InvT-loop
 Inv-loop out₀ at text room to₀ from₀ left₀ out to from left = (at + from ≡ to) × (from + left ≡ min (length text) (room - at)) × (length out ≡ room) × (at ≤ room) × Leads out₀ at text out to (drop from text)

@@ -14,9 +14,8 @@ use Rattle.basics.specs.Try.{if_then_else_}
 use Rattle.basics.specs.Lists.{every}
 use Rattle.basics.proofs.Tests.{is, yes!, no! }
 use Rattle.sheet_lines.specs.Text.{decimal, SPACE}
-use Rattle.picture.specs.Wrote.{Wrote}
-use Rattle.picture.specs.Numbers.{spaced, allZero, placed, told, held, past}
-use Rattle.picture.specs.Table.{wordNumbers}
+use Rattle.picture_numbers.specs.Wrote.{Wrote}
+use Rattle.picture_numbers.specs.Numbers.{spaced, allZero, placed, told, held, past, wordNumbers}
 
 -- ---- stores
 sets-out : (l : List ℕ) (i : ℕ) (vs : List ℕ) → length l ≤ i → sets l i vs ≡ l

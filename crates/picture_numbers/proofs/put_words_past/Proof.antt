@@ -1,15 +1,14 @@
--- `picture::put_words_past` meets its contract. Assumes nothing.
+-- `picture_numbers::put_words_past` meets its contract. Assumes nothing.
 use mathlib.Core.Path.{_∙_, ap}
 use mathlib.Core.List.{[], _∷_}
 use native.Mathlib.Omega.{arith}
 use lib.ListN.{length, take, drop}
 use borrow.Author.Needs.{needs}
-use Rattle.picture.specs.Numbers.{spaced, told}
-use Rattle.picture.specs.Table.{wordNumbers}
-use Rattle.picture.proofs.Laws.{wrote-as, numbers-joined, past-none, past-some}
+use Rattle.picture_numbers.specs.Numbers.{spaced, told, wordNumbers}
+use Rattle.picture_numbers.proofs.Laws.{wrote-as, numbers-joined, past-none, past-some}
 use mathlib.Core.Bool.{false}
-use Rattle.picture.proofs.put_words_past.Statement.{statement}
-use Rattle.picture.proofs.put_words_past.Tie as tie
+use Rattle.picture_numbers.proofs.put_words_past.Statement.{statement}
+use Rattle.picture_numbers.proofs.put_words_past.Tie as tie
 
 walk-words-requires : tie.Need-walk-words-requires
 walk-words-requires c κs = tt

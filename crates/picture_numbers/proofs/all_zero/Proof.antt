@@ -1,13 +1,13 @@
--- `picture::all_zero` meets its contract. The invariant: all are 0 where all that are left are 0. Assumes nothing.
+-- `picture_numbers::all_zero` meets its contract. The invariant: all are 0 where all that are left are 0. Assumes nothing.
 use Prim.Native.Nat.{_+_}
 use mathlib.Core.Path.{_≡_, sym, _∙_}
 use native.Mathlib.Omega.{arith}
 use lib.ListN.{length, drop}
 use borrow.Author.Needs.{needs}
-use Rattle.picture.specs.Numbers.{allZero}
-use Rattle.picture.proofs.Laws.{zero-on, zero-not, zero-end}
-use Rattle.picture.proofs.all_zero.Statement.{statement}
-use Rattle.picture.proofs.all_zero.Tie as tie
+use Rattle.picture_numbers.specs.Numbers.{allZero}
+use Rattle.picture_numbers.proofs.Laws.{zero-on, zero-not, zero-end}
+use Rattle.picture_numbers.proofs.all_zero.Statement.{statement}
+use Rattle.picture_numbers.proofs.all_zero.Tie as tie
 
 abbrev Inv-loop : tie.InvT-loop
 Inv-loop numbers i₀ left₀ i left = (i + left ≡ length numbers) × (allZero (drop i numbers) ≡ allZero numbers)

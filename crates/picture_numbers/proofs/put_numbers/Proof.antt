@@ -1,13 +1,13 @@
--- `picture::put_numbers` meets its contract. The invariant: the numbers that are left, written from the place reached, make the whole. Assumes nothing.
+-- `picture_numbers::put_numbers` meets its contract. The invariant: the numbers that are left, written from the place reached, make the whole. Assumes nothing.
 use Prim.Native.Nat.{_+_, _≤_}
 use mathlib.Core.Path.{_≡_}
 use native.Mathlib.Omega.{arith}
 use lib.ListN.{length, drop}
 use borrow.Author.Needs.{needs}
-use Rattle.picture.specs.Numbers.{spaced}
-use Rattle.picture.proofs.Laws.{Leads, lead-start, joined, numbers-on, numbers-end}
-use Rattle.picture.proofs.put_numbers.Statement.{statement}
-use Rattle.picture.proofs.put_numbers.Tie as tie
+use Rattle.picture_numbers.specs.Numbers.{spaced}
+use Rattle.picture_numbers.proofs.Laws.{Leads, lead-start, joined, numbers-on, numbers-end}
+use Rattle.picture_numbers.proofs.put_numbers.Statement.{statement}
+use Rattle.picture_numbers.proofs.put_numbers.Tie as tie
 
 abbrev Inv-loop : tie.InvT-loop
 Inv-loop out₀ at numbers to₀ i₀ left₀ out to i left = (i + left ≡ length numbers) × (length out ≡ length out₀) × (to ≤ length out) × Leads out₀ to₀ (spaced numbers) out to (spaced (drop i numbers))

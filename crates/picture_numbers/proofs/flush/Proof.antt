@@ -1,12 +1,12 @@
--- `picture::flush` meets its contract. Assumes nothing.
+-- `picture_numbers::flush` meets its contract. Assumes nothing.
 use Prim.Native.Nat.{min}
 use mathlib.Core.Path.{refl, sym}
 use native.Mathlib.Omega.{arith}
 use lib.ListN.{length}
 use lib.Seq.{length-take-le}
 use borrow.Author.Tests.{le-leb, lt-leb}
-use Rattle.picture.proofs.flush.Statement.{statement}
-use Rattle.picture.proofs.flush.Tie as tie
+use Rattle.picture_numbers.proofs.flush.Statement.{statement}
+use Rattle.picture_numbers.proofs.flush.Tie as tie
 
 least-requires : tie.Need-least-requires
 least-requires c κs = tt

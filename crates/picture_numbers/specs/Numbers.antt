@@ -16,6 +16,9 @@ spaced (n ∷ ns) = SPACE ∷ decimal n ++ spaced ns
 unfoldable pub allZero : List ℕ → Bool
 allZero ns = every (λ n. eqb n 0) ns
 
+abbrev pub wordNumbers : ℕ → List ℕ
+wordNumbers n = n ∷ []
+
 -- what is told of a place where these numbers stand: all of them where `bare`; else nothing where they are 0, and otherwise the place too
 unfoldable pub placed : Bool → ℕ → List ℕ → List ℕ
 placed bare place ns = if bare then ns else if allZero ns then [] else place ∷ ns

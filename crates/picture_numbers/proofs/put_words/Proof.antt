@@ -1,10 +1,10 @@
--- `picture::put_words` meets its contract. Assumes nothing.
+-- `picture_numbers::put_words` meets its contract. Assumes nothing.
 use mathlib.Core.Path.{ap}
 use lib.ListN.{take}
-use Rattle.picture.specs.Numbers.{spaced}
-use Rattle.picture.proofs.Laws.{wrote-as, told-words}
-use Rattle.picture.proofs.put_words.Statement.{statement}
-use Rattle.picture.proofs.put_words.Tie as tie
+use Rattle.picture_numbers.specs.Numbers.{spaced}
+use Rattle.picture_numbers.proofs.Laws.{wrote-as, told-words}
+use Rattle.picture_numbers.proofs.put_words.Statement.{statement}
+use Rattle.picture_numbers.proofs.put_words.Tie as tie
 
 walk-words-requires : tie.Need-walk-words-requires
 walk-words-requires c κs = tt

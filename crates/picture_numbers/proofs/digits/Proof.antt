@@ -1,11 +1,11 @@
--- `picture::digits` meets its contract. Assumes nothing.
+-- `picture_numbers::digits` meets its contract. Assumes nothing.
 use mathlib.Core.Path.{_∙_}
 use native.Mathlib.Omega.{arith}
 use borrow.Author.Needs.{needs}
-use Rattle.picture.proofs.Laws.{wrote-as}
-use Rattle.picture.proofs.Decimal.{fewest-decimal}
-use Rattle.picture.proofs.digits.Statement.{statement}
-use Rattle.picture.proofs.digits.Tie as tie
+use Rattle.picture_numbers.proofs.Laws.{wrote-as}
+use Rattle.picture_numbers.proofs.Decimal.{fewest-decimal}
+use Rattle.picture_numbers.proofs.digits.Statement.{statement}
+use Rattle.picture_numbers.proofs.digits.Tie as tie
 
 decimal-requires : tie.Need-decimal-requires
 decimal-requires c κs = tt
