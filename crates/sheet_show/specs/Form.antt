@@ -11,8 +11,8 @@ use Rattle.sheet_lines.specs.declared.Read.{Read}
 use Rattle.sheet_lines.specs.Record.{readRecord}
 use Rattle.sheet_lines.specs.Text.{bytesOf, decimal, NEWLINE}
 use Rattle.sheet_show.specs.declared.Text.{Text}
-use Rattle.sheet_show.specs.Good.{bitOf}
-use Rattle.sheet_show.specs.Uses.{usesNumber, onlyUsed}
+use Rattle.sheet_record.specs.Good.{bitOf}
+use Rattle.sheet_uses.specs.Uses.{usesNumber, onlyUsed}
 
 -- the text in the code's list of bytes
 abbrev pub textOf : Text → List ℕ

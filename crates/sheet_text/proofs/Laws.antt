@@ -14,7 +14,7 @@ use borrow.Author.Tests.{lt-ltb, le-ltb, le-leb, eq-eqb, ne-eqb, eqb-true, eqb-f
 use Rattle.basics.specs.Try.{ok, refuse}
 use Rattle.basics.proofs.Tests.{Is, is, yes!, no!, false-true, and-left, and-right}
 use Rattle.bytes.specs.Bytes.{indexOf, slice}
-use Rattle.sheet_show.specs.Good.{good}
+use Rattle.sheet_record.specs.Good.{good}
 use Rattle.sheet_show.proofs.Laws.{all-from}
 use Rattle.sheet_text.specs.declared.Number.{Number}
 use Rattle.sheet_text.specs.declared.Parsed.{Parsed}

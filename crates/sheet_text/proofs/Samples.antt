@@ -9,7 +9,7 @@ use lib.ListN.{length, take}
 use Rattle.bytes.specs.Bytes.{indexOf, indexAfter}
 use Rattle.sheet_lines.specs.declared.Record.{Record}
 use Rattle.sheet_lines.specs.Text.{bytesOf, digitsFrom, decimal}
-use Rattle.sheet_show.specs.Uses.{usesKey, usesPlace, usesAllow, usesNumber, uses, fits, isCode, onlyUsed}
+use Rattle.sheet_uses.specs.Uses.{usesKey, usesPlace, usesAllow, usesNumber, uses, fits, isCode, onlyUsed}
 use Rattle.sheet_show.specs.Form.{fieldText, wordText, callText, recordText, headText, usualAllow, shown}
 use Rattle.sheet_text.specs.declared.Parsed.{Parsed}
 use Rattle.sheet_text.specs.Parse.{isBlank, countsAs, runOf, sameBytes, placeIn, numberFrom, numberOf, fieldOf, least, most, plainCall, callOf, begin, withValue, withWord, recordOf, faulty, finished, withWords, textSays, lineSays}

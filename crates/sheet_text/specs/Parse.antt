@@ -10,8 +10,8 @@ use Rattle.basics.specs.Try.{Try, ok, refuse, if_then_else_}
 use Rattle.bytes.specs.Bytes.{indexOf}
 use Rattle.sheet_lines.specs.declared.Record.{Record}
 use Rattle.sheet_lines.specs.Text.{bytesOf}
-use Rattle.sheet_show.specs.Good.{good}
-use Rattle.sheet_show.specs.Uses.{uses}
+use Rattle.sheet_record.specs.Good.{good}
+use Rattle.sheet_uses.specs.Uses.{uses}
 use Rattle.sheet_text.specs.declared.Parsed.{Parsed}
 use Rattle.sheet_text.specs.declared.Begun.{Begun}
 use Rattle.sheet_text.specs.declared.Span.{Span}

@@ -9,7 +9,7 @@ use bytes::scan::find;
 use check::same;
 use key::CacheKey;
 use sheet_lines::Record;
-use sheet_show::uses;
+use sheet_uses::uses;
 
 // What is wrong with a line, and the word that is wrong: from its first byte to behind its last.
 pub struct Fault {

@@ -86,7 +86,7 @@ fn add_line(line: &[u8], out: &mut [u8], at: usize) -> Added
                     fault: whole(NO_ROOM),
                 };
             }
-            let bytes = sheet_show::write_record(call);
+            let bytes = sheet_record::write_record(call);
             let written = store(&bytes, out, at);
             Added {
                 written: written,

@@ -1,8 +1,8 @@
--- `sheet_show::uses_key` meets its contract. Assumes nothing.
+-- `sheet_uses::uses_key` meets its contract. Assumes nothing.
 use Rattle.basics.proofs.Tests.{tests}
-use Rattle.sheet_show.specs.Uses.{usesKey}
-use Rattle.sheet_show.proofs.uses_key.Statement.{statement}
-use Rattle.sheet_show.proofs.uses_key.Tie as tie
+use Rattle.sheet_uses.specs.Uses.{usesKey}
+use Rattle.sheet_uses.proofs.uses_key.Statement.{statement}
+use Rattle.sheet_uses.proofs.uses_key.Tie as tie
 
 returns : tie.Need-returns
 unfolding usesKey

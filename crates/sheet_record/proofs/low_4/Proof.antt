@@ -1,9 +1,9 @@
--- `sheet_show::low_4` meets its contract. Assumes nothing.
-use Rattle.sheet_show.proofs.Laws.{four-parts}
+-- `sheet_record::low_4` meets its contract. Assumes nothing.
+use Rattle.sheet_record.proofs.Laws.{four-parts}
 use native.Mathlib.Omega.{arith}
 use borrow.Author.Needs.{needs}
-use Rattle.sheet_show.proofs.low_4.Statement.{statement}
-use Rattle.sheet_show.proofs.low_4.Tie as tie
+use Rattle.sheet_record.proofs.low_4.Statement.{statement}
+use Rattle.sheet_record.proofs.low_4.Tie as tie
 
 returns : tie.Need-returns
 returns c = let e = four-parts (c .before .before .before .before .args .number) in omega arith

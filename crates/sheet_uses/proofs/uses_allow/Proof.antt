@@ -1,8 +1,8 @@
--- `sheet_show::uses_allow` meets its contract. Assumes nothing.
+-- `sheet_uses::uses_allow` meets its contract. Assumes nothing.
 use Rattle.basics.proofs.Tests.{tests}
-use Rattle.sheet_show.specs.Uses.{usesAllow}
-use Rattle.sheet_show.proofs.uses_allow.Statement.{statement}
-use Rattle.sheet_show.proofs.uses_allow.Tie as tie
+use Rattle.sheet_uses.specs.Uses.{usesAllow}
+use Rattle.sheet_uses.proofs.uses_allow.Statement.{statement}
+use Rattle.sheet_uses.proofs.uses_allow.Tie as tie
 
 returns : tie.Need-returns
 unfolding usesAllow

@@ -4,7 +4,7 @@ use mathlib.Core.Bool.{Bool, _&&_}
 use lib.Dec.{ltb, leb}
 use Rattle.basics.specs.Try.{if_then_else_}
 use Rattle.sheet_lines.specs.declared.Record.{Record}
-use Rattle.sheet_show.specs.declared.Four.{Four}
+use Rattle.sheet_record.specs.declared.Four.{Four}
 
 unfoldable pub good : Record → Bool
 good r = ltb 0 (r .code) && leb (r .code) 9 && leb (r .place) 15 && leb (r .number) 4294967295

@@ -1,8 +1,8 @@
--- `sheet_show::only_used` meets its contract. Assumes nothing.
-use Rattle.sheet_show.specs.Uses.{onlyUsed}
+-- `sheet_uses::only_used` meets its contract. Assumes nothing.
+use Rattle.sheet_uses.specs.Uses.{onlyUsed}
 use borrow.Author.Needs.{needs}
-use Rattle.sheet_show.proofs.only_used.Statement.{statement}
-use Rattle.sheet_show.proofs.only_used.Tie as tie
+use Rattle.sheet_uses.proofs.only_used.Statement.{statement}
+use Rattle.sheet_uses.proofs.only_used.Tie as tie
 
 returns : tie.Need-returns
 unfolding onlyUsed

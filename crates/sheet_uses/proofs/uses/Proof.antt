@@ -1,9 +1,9 @@
--- `sheet_show::uses` meets its contract. Assumes nothing.
+-- `sheet_uses::uses` meets its contract. Assumes nothing.
 use borrow.Author.Tests.{eq-eqb, ne-eqb}
-use Rattle.sheet_show.specs.Uses.{uses}
+use Rattle.sheet_uses.specs.Uses.{uses}
 use borrow.Author.Needs.{needs}
-use Rattle.sheet_show.proofs.uses.Statement.{statement}
-use Rattle.sheet_show.proofs.uses.Tie as tie
+use Rattle.sheet_uses.proofs.uses.Statement.{statement}
+use Rattle.sheet_uses.proofs.uses.Tie as tie
 
 returns : tie.Need-returns
 unfolding uses

@@ -1,7 +1,7 @@
--- `sheet_show::fits` meets its contract. Assumes nothing.
-use Rattle.sheet_show.specs.Uses.{fits}
-use Rattle.sheet_show.proofs.fits.Statement.{statement}
-use Rattle.sheet_show.proofs.fits.Tie as tie
+-- `sheet_uses::fits` meets its contract. Assumes nothing.
+use Rattle.sheet_uses.specs.Uses.{fits}
+use Rattle.sheet_uses.proofs.fits.Statement.{statement}
+use Rattle.sheet_uses.proofs.fits.Tie as tie
 
 returns : tie.Need-returns
 unfolding fits

@@ -1,11 +1,11 @@
--- `sheet_show::write_record` meets its contract. Assumes nothing.
-use Rattle.sheet_show.proofs.Laws.{far-place, far-number, reads-back}
+-- `sheet_record::write_record` meets its contract. Assumes nothing.
+use Rattle.sheet_record.proofs.Laws.{far-place, far-number, reads-back}
 use native.Mathlib.Omega.{arith}
 use Rattle.sheet_lines.specs.Record.{readRecord, inRange}
-use Rattle.sheet_show.specs.Good.{good}
+use Rattle.sheet_record.specs.Good.{good}
 use borrow.Author.Needs.{needs}
-use Rattle.sheet_show.proofs.write_record.Statement.{statement}
-use Rattle.sheet_show.proofs.write_record.Tie as tie
+use Rattle.sheet_record.proofs.write_record.Statement.{statement}
+use Rattle.sheet_record.proofs.write_record.Tie as tie
 
 returns : tie.Need-returns
 unfolding readRecord inRange good

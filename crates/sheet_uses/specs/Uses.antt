@@ -4,7 +4,7 @@ use mathlib.Core.Bool.{Bool, true, false, _&&_}
 use lib.Dec.{eqb, ltb, leb}
 use Rattle.basics.specs.Try.{if_then_else_}
 use Rattle.sheet_lines.specs.declared.Record.{Record}
-use Rattle.sheet_show.specs.Good.{bitOf}
+use Rattle.sheet_record.specs.Good.{bitOf}
 
 -- "file, index" and kind: 2 access, 5 lookup
 unfoldable pub usesKey : ℕ → Bool

@@ -1,8 +1,8 @@
--- `sheet_show::is_code` meets its contract. Assumes nothing.
+-- `sheet_uses::is_code` meets its contract. Assumes nothing.
 use Rattle.basics.proofs.Tests.{tests}
-use Rattle.sheet_show.specs.Uses.{isCode}
-use Rattle.sheet_show.proofs.is_code.Statement.{statement}
-use Rattle.sheet_show.proofs.is_code.Tie as tie
+use Rattle.sheet_uses.specs.Uses.{isCode}
+use Rattle.sheet_uses.proofs.is_code.Statement.{statement}
+use Rattle.sheet_uses.proofs.is_code.Tie as tie
 
 returns : tie.Need-returns
 unfolding isCode
