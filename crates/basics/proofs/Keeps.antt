@@ -9,10 +9,11 @@ use lib.Dec.{eqb}
 use lib.ListN.{length}
 use borrow.Author.Tests.{eqb-true, eqb-false}
 use Rattle.basics.specs.Lists.{down, keep, first}
+use Rattle.basics.specs.Members.{In, here, there, Once}
+use Rattle.basics.specs.Counts.{bit, count}
 use Rattle.basics.proofs.Tests.{yes!, no!, is}
-use Rattle.basics.proofs.Members.{In, here, there, in-none, in-case, not-in, not-in-list, Once, inject, in-down, down-in, once-down}
+use Rattle.basics.proofs.Members.{in-none, in-case, not-in, not-in-list, inject, in-down, down-in, once-down}
 use Rattle.basics.proofs.Maps.{put, put-here, put-other}
-use Rattle.basics.proofs.Counts.{bit, count}
 
 -- ── what is kept ──
 pub keep-true : {A : Type 0} (p : A → Bool) (a : A) (l : List A) → p a ≡ true → keep p (a ∷ l) ≡ a ∷ keep p l

@@ -1,4 +1,4 @@
--- Lists of slots: membership, each slot once, a slot taken out, and a list mapped. Assumes nothing.
+-- Laws on `In` and `Once`: a slot taken out of a list, and a list mapped. Assumes nothing.
 use Prim.Native.Nat.{ℕ, zero, suc, _-_, _<_, _≤_}
 use native.Mathlib.Omega.{arith}
 use mathlib.Core.Path.{_≡_, refl, sym, ap, _∙_}
@@ -8,12 +8,8 @@ use lib.ListN.{length, getD}
 use borrow.Author.Tests.{eqb-true, eqb-false, eq-eqb, ne-eqb}
 use Rattle.basics.specs.Try.{if_then_else_}
 use Rattle.basics.specs.Lists.{down}
+use Rattle.basics.specs.Members.{In, here, there, NotIn, Once}
 use Rattle.basics.proofs.Tests.{yes!, no!, is}
-
--- a is one of the list
-pub data In {A : Type 0} (a : A) : List A → Type 0 where
-  here : {l : List A} → In a (a ∷ l)
-  there : {b : A} {l : List A} → In a l → In a (b ∷ l)
 
 pub in-none : {A : Type 0} {P : Type 0} {y : A} → In y [] → P
 in-none m = elim m [ ]
@@ -22,11 +18,6 @@ pub in-case : {A : Type 0} {P : Type 0} {y z : A} {l : List A} → In y (z ∷ l
 in-case here a b = a refl
 in-case (there m) a b = b m
 
--- x is none of the list
-abbrev pub NotIn : ℕ → List ℕ → Type 0
-NotIn x [] = Unit {0}
-NotIn x (y ∷ ys) = (x ≡ y → ⊥) × NotIn x ys
-
 pub not-in : {x y : ℕ} {xs : List ℕ} → NotIn y xs → In x xs → y ≡ x → ⊥
 not-in ni here e = ni .0 e
 not-in ni (there m) e = not-in (ni .1) m e
@@ -34,11 +25,6 @@ not-in ni (there m) e = not-in (ni .1) m e
 pub not-in-list : (y : ℕ) (xs : List ℕ) → (In y xs → ⊥) → NotIn y xs
 not-in-list y [] n = tt
 not-in-list y (z ∷ zs) n = (λ e. n (rw e here), not-in-list y zs (λ m. n (there m)))
-
--- no two of the list are alike
-abbrev pub Once : List ℕ → Type 0
-Once [] = Unit {0}
-Once (x ∷ xs) = NotIn x xs × Once xs
 
 -- the list without the first x
 unfoldable pub cut : ℕ → List ℕ → List ℕ

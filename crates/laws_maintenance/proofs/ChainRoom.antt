@@ -9,8 +9,9 @@ use lib.Dec.{ltb}
 use lib.ListN.{length}
 use borrow.Author.Tests.{ltb-false, le-ltb}
 use Rattle.basics.specs.Try.{ok}
+use Rattle.basics.specs.Members.{In}
 use Rattle.basics.proofs.Tests.{ok-same}
-use Rattle.basics.proofs.Members.{In, cut, cut-shorter, in-cut, inject, in-map, in-down}
+use Rattle.basics.proofs.Members.{cut, cut-shorter, in-cut, inject, in-map, in-down}
 use Rattle.key.specs.declared.CacheKey.{CacheKey}
 use Rattle.key.specs.Bucket.{bucketOf, bucketCount}
 use Rattle.key.proofs.Least.{counts-divide}

@@ -6,7 +6,8 @@ use mathlib.Core.Bool.{Bool, true, false, _||_}
 use mathlib.Core.List.{List, [], _∷_, _++_}
 use lib.ListN.{length, getD, set, take, replicate}
 use Rattle.basics.specs.Lists.{down, some?}
-use Rattle.basics.proofs.Members.{In, here, there, in-none, in-case, not-in, NotIn, Once, cut, cut-shorter, in-cut, in-down, down-in, once-down, down-length}
+use Rattle.basics.specs.Members.{In, here, there, NotIn, Once}
+use Rattle.basics.proofs.Members.{in-none, in-case, not-in, cut, cut-shorter, in-cut, in-down, down-in, once-down, down-length}
 
 -- ── the pigeonhole ──
 -- each of xs has one of ys that is its alone

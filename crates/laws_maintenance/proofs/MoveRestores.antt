@@ -8,8 +8,8 @@ use mathlib.Core.List.{List}
 use lib.Dec.{eqb}
 use borrow.Author.Tests.{eqb-true, eqb-false}
 use Rattle.basics.specs.Lists.{eachSlot}
+use Rattle.basics.specs.Counts.{bit}
 use Rattle.basics.proofs.Tests.{yes!, no!, is, false-true}
-use Rattle.basics.proofs.Counts.{bit}
 use Rattle.key.specs.declared.CacheKey.{CacheKey}
 use Rattle.state.specs.declared.State.{State}
 use Rattle.state.specs.Slots.{slotAt, isClean}

@@ -6,8 +6,9 @@ use mathlib.Core.Bool.{true}
 use mathlib.Core.List.{List, [], _∷_, _++_}
 use lib.Dec.{eqb}
 use borrow.Author.Tests.{eqb-true, eqb-false}
+use Rattle.basics.specs.Members.{In}
 use Rattle.basics.proofs.Tests.{yes!, no!, is, false-true}
-use Rattle.basics.proofs.Members.{In, in-none}
+use Rattle.basics.proofs.Members.{in-none}
 use Rattle.eviction.specs.Victim.{unpinned}
 use Rattle.state.specs.declared.State.{State}
 use Rattle.state.specs.Slots.{slotAt, vacantSlot, isClean}

@@ -6,9 +6,9 @@ use mathlib.Core.Bool.{Bool, false, _&&_}
 use lib.Dec.{leb, eqb}
 use borrow.Author.Tests.{eqb-true, eqb-false, leb-true, leb-false, le-leb, lt-leb}
 use Rattle.basics.specs.Lists.{down}
+use Rattle.basics.specs.Counts.{bit, count}
 use Rattle.basics.proofs.Tests.{yes!, no!, is}
 use Rattle.basics.proofs.Maps.{put}
-use Rattle.basics.proofs.Counts.{bit, count}
 use Rattle.basics.proofs.Keeps.{count-agree, count-put}
 use Rattle.state.specs.declared.State.{State}
 use Rattle.state.specs.Slots.{slotAt, isClean}

@@ -4,7 +4,7 @@ use mathlib.Core.Path.{_≡_}
 use mathlib.Core.Bool.{true}
 use mathlib.Core.List.{List}
 use lib.ListN.{length}
-use Rattle.basics.proofs.Members.{In, Once}
+use Rattle.basics.specs.Members.{In, Once}
 use Rattle.eviction.specs.Victim.{unpinned}
 use Rattle.state.specs.declared.State.{State}
 use Rattle.state.specs.Slots.{slotAt, vacantSlot, isClean}

@@ -10,8 +10,9 @@ use lib.ListN.{length, getD, set, length-set}
 use lib.Seq.{getD-set-same, getD-set-other}
 use borrow.Author.Tests.{eqb-true, eqb-false, lt-ltb, eq-eqb, ne-eqb}
 use Rattle.basics.specs.Try.{Try, ok}
+use Rattle.basics.specs.Members.{In, here, there, NotIn}
 use Rattle.basics.proofs.Tests.{yes!, no!, is, some-same, none-some}
-use Rattle.basics.proofs.Members.{In, here, there, in-case, NotIn, not-in-list}
+use Rattle.basics.proofs.Members.{in-case, not-in-list}
 use Rattle.basics.proofs.Maps.{put}
 use Rattle.key.specs.declared.CacheKey.{CacheKey}
 use Rattle.key.specs.Bucket.{bucketOf}

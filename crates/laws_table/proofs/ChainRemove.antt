@@ -12,8 +12,9 @@ use lib.Seq.{getD-set-same, getD-set-other}
 use borrow.Author.Tests.{eqb-true, eqb-false, lt-leb, eq-eqb, ne-eqb}
 use Rattle.basics.specs.Try.{Try, ok, if_then_else_}
 use Rattle.basics.specs.Numbers.{NONE}
+use Rattle.basics.specs.Members.{In, here, there, NotIn, Once}
 use Rattle.basics.proofs.Tests.{yes!, no!, is, some-same, none-some}
-use Rattle.basics.proofs.Members.{In, here, there, NotIn, not-in, not-in-list, Once, cut, cut-length, cut-in, in-cut, once-cut}
+use Rattle.basics.proofs.Members.{not-in, not-in-list, cut, cut-length, cut-in, in-cut, once-cut}
 use Rattle.basics.proofs.Maps.{put}
 use Rattle.key.specs.declared.CacheKey.{CacheKey}
 use Rattle.key.specs.Bucket.{bucketOf}

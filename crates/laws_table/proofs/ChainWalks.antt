@@ -11,7 +11,7 @@ use lib.Seq.{getD-set-other}
 use borrow.Author.Tests.{lt-ltb, le-leb, lt-leb, ne-eqb}
 use Rattle.basics.specs.Try.{ok}
 use Rattle.basics.specs.Numbers.{NONE}
-use Rattle.basics.proofs.Members.{In, here, there, NotIn}
+use Rattle.basics.specs.Members.{In, here, there, NotIn}
 use Rattle.key.specs.declared.CacheKey.{CacheKey}
 use Rattle.key.specs.Bucket.{bucketOf}
 use Rattle.key.proofs.Buckets.{bucket-low}

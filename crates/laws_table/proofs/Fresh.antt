@@ -7,8 +7,9 @@ use mathlib.Core.Option.{Option, none}
 use lib.ListN.{length, getD, replicate, length-append, length-replicate, getD-replicate, List·getD-append}
 use Rattle.basics.specs.Numbers.{NONE}
 use Rattle.basics.specs.Lists.{down}
+use Rattle.basics.specs.Members.{In, Once}
 use Rattle.basics.proofs.Tests.{none-some}
-use Rattle.basics.proofs.Members.{In, in-none, Once, in-map, map-in, once-map, in-down, down-in, once-down, down-length, down-at}
+use Rattle.basics.proofs.Members.{in-none, in-map, map-in, once-map, in-down, down-in, once-down, down-length, down-at}
 use Rattle.key.specs.Bucket.{bucketCount}
 use Rattle.key.proofs.Least.{some-bucket, few-buckets}
 use Rattle.index.specs.Fresh.{freshIndex}

@@ -6,8 +6,8 @@ use mathlib.Core.Bool.{Bool, false}
 use mathlib.Core.List.{List, [], _∷_}
 use mathlib.Core.Option.{none}
 use lib.ListN.{getD, replicate, length-replicate}
+use Rattle.basics.specs.Counts.{count}
 use Rattle.basics.proofs.Tests.{false-true}
-use Rattle.basics.proofs.Counts.{count}
 use Rattle.basics.specs.Lists.{down}
 use Rattle.key.specs.Bucket.{bucketCount}
 use Rattle.index.specs.Fresh.{freshIndex}

@@ -12,8 +12,8 @@ use Rattle.basics.specs.Try.{Try, ok, refuse}
 use Rattle.basics.specs.Refusals.{EXHAUSTED}
 use Rattle.basics.specs.Numbers.{NONE, MAX}
 use Rattle.basics.specs.Lists.{first}
+use Rattle.basics.specs.Members.{In}
 use Rattle.basics.proofs.Tests.{yes!, no!, is, false-true}
-use Rattle.basics.proofs.Members.{In}
 use Rattle.basics.proofs.Keeps.{hits, fails, look}
 use Rattle.key.specs.declared.CacheKey.{CacheKey}
 use Rattle.key.specs.Key.{sameKey}

@@ -9,9 +9,9 @@ use lib.Dec.{eqb}
 use lib.ListN.{length, getD, set}
 use lib.Seq.{getD-set-same, getD-set-other}
 use borrow.Author.Tests.{eqb-true, eqb-false, ne-eqb}
+use Rattle.basics.specs.Counts.{bit}
 use Rattle.basics.proofs.Tests.{yes!, no!, is, false-true, some-same, none-some}
 use Rattle.basics.proofs.Maps.{put}
-use Rattle.basics.proofs.Counts.{bit}
 use Rattle.key.specs.Bucket.{bucketOf}
 use Rattle.state.specs.declared.Slot.{Slot}
 use Rattle.state.specs.Slots.{vacantSlot, isLoading, isClean, occupied}

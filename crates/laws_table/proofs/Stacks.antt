@@ -12,8 +12,9 @@ use lib.Seq.{getD-set-same, getD-set-other}
 use borrow.Author.Tests.{eqb-true, eqb-false, lt-ltb, eq-eqb, ne-eqb}
 use Rattle.basics.specs.Try.{ok}
 use Rattle.basics.specs.Lists.{down}
+use Rattle.basics.specs.Members.{In, here, there, Once}
 use Rattle.basics.proofs.Tests.{yes!, no!, is, none-some}
-use Rattle.basics.proofs.Members.{In, here, there, in-case, not-in, not-in-list, Once, map-agree, down-in}
+use Rattle.basics.proofs.Members.{in-case, not-in, not-in-list, map-agree, down-in}
 use Rattle.basics.proofs.Maps.{put, put-here, put-other}
 use Rattle.index.specs.declared.Index.{Index}
 use Rattle.index.specs.Free.{withFree, topVacant, takeVacant, releaseIndex}

@@ -6,9 +6,9 @@ use mathlib.Core.Bool.{true}
 use mathlib.Core.Option.{Option, none, some}
 use lib.ListN.{set}
 use Rattle.basics.specs.Try.{ok}
+use Rattle.basics.specs.Counts.{bit}
 use Rattle.basics.proofs.Tests.{yes!, no!, is, none-some}
 use Rattle.basics.proofs.Maps.{put, put-here, put-same}
-use Rattle.basics.proofs.Counts.{bit}
 use Rattle.key.specs.declared.CacheKey.{CacheKey}
 use Rattle.key.specs.Bucket.{bucketOf}
 use Rattle.index.specs.declared.Index.{Index}

@@ -11,8 +11,9 @@ use lib.ListN.{length, set}
 use borrow.Author.Tests.{eqb-true, lt-ltb, ne-eqb}
 use Rattle.basics.specs.Try.{ok}
 use Rattle.basics.specs.Numbers.{MAX}
+use Rattle.basics.specs.Members.{In, here}
 use Rattle.basics.proofs.Tests.{yes!, no!, is}
-use Rattle.basics.proofs.Members.{In, here, cut-length}
+use Rattle.basics.proofs.Members.{cut-length}
 use Rattle.basics.proofs.Maps.{put, put-here, put-same, put-put}
 use Rattle.key.specs.declared.CacheKey.{CacheKey}
 use Rattle.key.specs.Bucket.{bucketOf}

@@ -8,9 +8,10 @@ use mathlib.Core.List.{List, map}
 use lib.ListN.{length, getD, set, length-set, length-map}
 use borrow.Author.Tests.{lt-ltb, le-leb, eq-eqb, not-true}
 use Rattle.basics.specs.Lists.{down}
-use Rattle.basics.proofs.Members.{Once, in-map, map-in, once-map, in-down, down-in, once-down, down-length}
+use Rattle.basics.specs.Members.{Once}
+use Rattle.basics.specs.Counts.{bit}
+use Rattle.basics.proofs.Members.{in-map, map-in, once-map, in-down, down-in, once-down, down-length}
 use Rattle.basics.proofs.Maps.{put}
-use Rattle.basics.proofs.Counts.{bit}
 use Rattle.basics.proofs.Keeps.{count-put, count-three, count-list}
 use Rattle.key.specs.Bucket.{bucketCount}
 use Rattle.index.specs.declared.Index.{Index}

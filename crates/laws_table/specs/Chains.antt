@@ -5,7 +5,7 @@ use mathlib.Core.List.{List, [], _∷_}
 use mathlib.Core.Option.{Option, none, some}
 use lib.ListN.{length, getD}
 use Rattle.basics.specs.Numbers.{NONE}
-use Rattle.basics.proofs.Members.{In, Once}
+use Rattle.basics.specs.Members.{In, Once}
 use Rattle.index.specs.declared.Index.{Index}
 use Rattle.index.specs.Chain.{CHAIN, nextOf}
 

@@ -5,7 +5,7 @@ use mathlib.Core.List.{List, map}
 use mathlib.Core.Option.{Option, none}
 use lib.ListN.{length, getD}
 use Rattle.basics.specs.Lists.{down}
-use Rattle.basics.proofs.Members.{In, Once}
+use Rattle.basics.specs.Members.{In, Once}
 use Rattle.index.specs.declared.Index.{Index}
 
 -- the slots on the stack, the top one first

@@ -8,7 +8,7 @@ use lib.ListN.{length, getD, set}
 use Rattle.basics.specs.Try.{refuse, if_then_else_}
 use Rattle.basics.specs.Refusals.{STOP}
 use Rattle.basics.specs.Lists.{down}
-use Rattle.basics.proofs.Counts.{count}
+use Rattle.basics.specs.Counts.{count}
 use Rattle.key.specs.declared.CacheKey.{CacheKey}
 use Rattle.key.specs.Bucket.{bucketOf, bucketCount}
 use Rattle.index.specs.declared.Index.{Index}

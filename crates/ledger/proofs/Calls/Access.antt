@@ -11,8 +11,8 @@ use lib.ListN.{length}
 use borrow.Author.Tests.{eqb-true, eqb-false}
 use Rattle.basics.specs.Try.{Try, ok, refuse}
 use Rattle.basics.specs.Numbers.{MAX}
+use Rattle.basics.specs.Members.{In}
 use Rattle.basics.proofs.Tests.{yes!, no!, is, some-same, none-some}
-use Rattle.basics.proofs.Members.{In}
 use Rattle.key.specs.declared.CacheKey.{CacheKey}
 use Rattle.eviction.specs.Entries.{at}
 use Rattle.state.specs.declared.State.{State}

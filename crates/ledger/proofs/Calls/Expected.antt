@@ -12,8 +12,8 @@ use borrow.Author.Tests.{eqb-true, eqb-false, lt-ltb, le-ltb, le-leb, lt-leb, eq
 use Rattle.basics.specs.Try.{ok, refuse, if_then_else_}
 use Rattle.basics.specs.Refusals.{PINS}
 use Rattle.basics.specs.Lists.{keep, some?, first}
+use Rattle.basics.specs.Members.{In}
 use Rattle.basics.proofs.Tests.{yes!, no!, is, false-true, none-some}
-use Rattle.basics.proofs.Members.{In}
 use Rattle.basics.proofs.Keeps.{hits, fails, look}
 use Rattle.key.specs.declared.CacheKey.{CacheKey}
 use Rattle.key.specs.Key.{sameKey}

@@ -10,8 +10,9 @@ use borrow.Author.Tests.{not-true, eqb-true, eqb-false, ltb-true, lt-ltb, le-ltb
 use Rattle.basics.specs.Try.{ok}
 use Rattle.basics.specs.Numbers.{NONE}
 use Rattle.basics.specs.Lists.{keep, every}
+use Rattle.basics.specs.Members.{In, here, there}
 use Rattle.basics.proofs.Tests.{yes!, no!, is, false-true}
-use Rattle.basics.proofs.Members.{In, here, there, in-none, in-map, map-in}
+use Rattle.basics.proofs.Members.{in-none, in-map, map-in}
 use Rattle.basics.proofs.Keeps.{in-keep, keep-in}
 use Rattle.key.specs.Key.{sameKey}
 use Rattle.key.proofs.Keys.{same-key}

@@ -6,8 +6,8 @@ use mathlib.Core.Bool.{true, false}
 use lib.Dec.{T}
 use Rattle.basics.specs.Try.{refuse}
 use Rattle.basics.specs.Refusals.{STALE}
+use Rattle.basics.specs.Members.{In}
 use Rattle.basics.proofs.Tests.{yes!, no!, is, false-true}
-use Rattle.basics.proofs.Members.{In}
 use Rattle.state.specs.declared.State.{State}
 use Rattle.state.specs.declared.LoadToken.{LoadToken}
 use Rattle.state.specs.Slots.{slotAt}

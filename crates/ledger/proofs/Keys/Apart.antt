@@ -4,8 +4,9 @@ use mathlib.Core.Path.{_≡_, sym, _∙_}
 use mathlib.Core.Bool.{Bool}
 use mathlib.Core.List.{List, [], _∷_, map}
 use Rattle.basics.specs.Lists.{keep}
+use Rattle.basics.specs.Members.{In, here, there, Once}
 use Rattle.basics.proofs.Tests.{yes!, no!, is}
-use Rattle.basics.proofs.Members.{In, here, there, in-none, in-case, not-in-list, Once, map-in}
+use Rattle.basics.proofs.Members.{in-none, in-case, not-in-list, map-in}
 use Rattle.basics.proofs.Keeps.{keep-in}
 use Rattle.ledger.specs.Ledger.{Held}
 

@@ -5,8 +5,9 @@ use mathlib.Core.List.{List, [], _∷_}
 use mathlib.Core.Option.{some}
 use lib.Dec.{T}
 use Rattle.basics.specs.Lists.{keep, every, some?, first}
+use Rattle.basics.specs.Members.{In, here, there}
 use Rattle.basics.proofs.Tests.{yes!, no!, is, false-true, some-same, none-some}
-use Rattle.basics.proofs.Members.{In, here, there, in-none, in-case}
+use Rattle.basics.proofs.Members.{in-none, in-case}
 use Rattle.basics.proofs.Keeps.{hits, fails, look}
 use Rattle.key.specs.declared.CacheKey.{CacheKey}
 use Rattle.key.specs.Key.{sameKey}

@@ -7,8 +7,8 @@ use mathlib.Core.Option.{Option, none, some}
 use lib.Dec.{eqb}
 use borrow.Author.Tests.{eqb-true, eqb-false, eq-eqb, ne-eqb}
 use Rattle.basics.specs.Lists.{keep, some?, first}
+use Rattle.basics.specs.Members.{In}
 use Rattle.basics.proofs.Tests.{yes!, no!, is, false-true}
-use Rattle.basics.proofs.Members.{In}
 use Rattle.basics.proofs.Maps.{put}
 use Rattle.basics.proofs.Keeps.{hits, fails, look}
 use Rattle.key.specs.Key.{sameKey}

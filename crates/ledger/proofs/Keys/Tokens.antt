@@ -5,8 +5,8 @@ use mathlib.Core.List.{List}
 use lib.Dec.{eqb}
 use borrow.Author.Tests.{eqb-true, eq-eqb}
 use Rattle.basics.specs.Lists.{some?}
+use Rattle.basics.specs.Members.{In}
 use Rattle.basics.proofs.Tests.{false-true, and-left, and-right}
-use Rattle.basics.proofs.Members.{In}
 use Rattle.key.specs.Key.{sameKey}
 use Rattle.key.proofs.Keys.{same-key, key-eq}
 use Rattle.state.specs.declared.LoadToken.{LoadToken}

@@ -6,8 +6,9 @@ use mathlib.Core.Path.{_≡_, refl, sym, ap, _∙_, subst}
 use mathlib.Core.Bool.{true, false}
 use mathlib.Core.Option.{Option, none, some}
 use Rattle.basics.specs.Lists.{first}
+use Rattle.basics.specs.Members.{In}
 use Rattle.basics.proofs.Tests.{false-true, some-same, none-some}
-use Rattle.basics.proofs.Members.{In, in-none}
+use Rattle.basics.proofs.Members.{in-none}
 use Rattle.key.specs.declared.CacheKey.{CacheKey}
 use Rattle.state.specs.declared.Slot.{Slot}
 use Rattle.state.specs.declared.State.{State}

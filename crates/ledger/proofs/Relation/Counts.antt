@@ -9,8 +9,9 @@ use lib.Dec.{eqb}
 use lib.ListN.{length, length-map}
 use borrow.Author.Tests.{eqb-true, eq-eqb}
 use Rattle.basics.specs.Lists.{down, keep}
-use Rattle.basics.proofs.Members.{In, in-map, map-in, inject}
-use Rattle.basics.proofs.Counts.{bit, count}
+use Rattle.basics.specs.Members.{In}
+use Rattle.basics.specs.Counts.{bit, count}
+use Rattle.basics.proofs.Members.{in-map, map-in, inject}
 use Rattle.basics.proofs.Keeps.{in-keep, keep-in, count-list}
 use Rattle.key.specs.declared.CacheKey.{CacheKey}
 use Rattle.key.specs.Bucket.{bucketOf, bucketCount}

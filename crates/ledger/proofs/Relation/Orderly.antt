@@ -9,8 +9,9 @@ use lib.ListN.{getD}
 use borrow.Author.Tests.{eq-eqb}
 use Rattle.basics.specs.Numbers.{NONE}
 use Rattle.basics.specs.Lists.{keep}
+use Rattle.basics.specs.Members.{In}
 use Rattle.basics.proofs.Tests.{false-true}
-use Rattle.basics.proofs.Members.{In, in-none, in-case, map-in}
+use Rattle.basics.proofs.Members.{in-none, in-case, map-in}
 use Rattle.basics.proofs.Keeps.{keep-in}
 use Rattle.key.specs.declared.CacheKey.{CacheKey}
 use Rattle.state.specs.declared.LoadToken.{LoadToken}

@@ -10,8 +10,9 @@ use lib.Dec.{ltb, eqb}
 use lib.ListN.{length, getD, length-map}
 use borrow.Author.Tests.{ltb-true, ltb-false}
 use Rattle.basics.specs.Lists.{down, keep, some?}
+use Rattle.basics.specs.Members.{In, here, there}
 use Rattle.basics.proofs.Tests.{yes!, no!, is, false-true}
-use Rattle.basics.proofs.Members.{In, here, there, in-none, in-case, in-map, map-in, inject, down-in}
+use Rattle.basics.proofs.Members.{in-none, in-case, in-map, map-in, inject, down-in}
 use Rattle.basics.proofs.Keeps.{in-keep, keep-in}
 use Rattle.eviction.specs.Entries.{at, posOf}
 use Rattle.state.specs.declared.State.{State}

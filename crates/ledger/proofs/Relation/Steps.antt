@@ -10,8 +10,9 @@ use lib.Dec.{eqb}
 use lib.Seq.{getD-set-same, getD-set-other}
 use borrow.Author.Tests.{eqb-true, eqb-false, ne-eqb}
 use Rattle.basics.specs.Lists.{keep}
+use Rattle.basics.specs.Members.{In, here, there}
 use Rattle.basics.proofs.Tests.{yes!, no!, is, false-true, none-some}
-use Rattle.basics.proofs.Members.{In, here, there, in-case}
+use Rattle.basics.proofs.Members.{in-case}
 use Rattle.basics.proofs.Maps.{put, put-put}
 use Rattle.key.specs.declared.CacheKey.{CacheKey}
 use Rattle.state.specs.declared.Slot.{Slot}

@@ -11,7 +11,8 @@ use lib.ListN.{replicate}
 use Rattle.basics.specs.Try.{Try, ok}
 use Rattle.basics.specs.Numbers.{MAX}
 use Rattle.basics.specs.Answers.{Fine, done}
-use Rattle.basics.proofs.Members.{In, here, in-none, in-case}
+use Rattle.basics.specs.Members.{In, here}
+use Rattle.basics.proofs.Members.{in-none, in-case}
 use Rattle.state.specs.declared.State.{State}
 use Rattle.state.specs.declared.LoadToken.{LoadToken}
 use Rattle.state.specs.Answers.{Given, reserved}
