@@ -1,7 +1,7 @@
 // Texts and numbers written into a list of bytes. Every function writes from a place of `out` on and answers the place behind what it wrote.
 // Where there is no room it writes less, and a place past the end is taken for the end, so an answer is always within `out`.
 ghost use mathlib.Core.Path.{_≡_};
-ghost use mathlib.Core.Bool.{true, false};
+ghost use mathlib.Core.Bool.{false};
 ghost use mathlib.Core.List.{[], _∷_};
 ghost use Prim.Native.Nat.{_+_, _≤_, _<_, _^_, min};
 ghost use lib.ListN.{length, take, drop};
@@ -119,7 +119,7 @@ fn all_zero(numbers: &[u64]) -> bool
     true
 }
 
-// What is told of a place where these numbers stand.
+// What is told of a place where these numbers stand. A walk counts no more places than its list has, so it meets what this requires.
 pub fn put_place(out: &mut [u8], to: Walked, bare: bool, place: usize, numbers: &[u64]) -> Walked
     requires { ⌜ to .held + 1 < 2 ^ 64 ⌝ }
     ensures { λ r. ⌜ Wrote (now (out .entry)) (to .at) (spaced (placed bare place (now (numbers .entry)))) (r .at) (now (out .exit)) ⌝ }
