@@ -67,7 +67,7 @@ fn write_record(
     ensures { λ r. ⌜ length (now (out .exit)) ≡ length (now (out .entry)) ⌝ }
     ensures { λ r. ⌜ (at ≤ r) × (r ≤ at + 96) ⌝ }
 {
-    let line = sheet_lines::line_of(number, said, shown(stands, clean), shown(stands, loading));
+    let line = sheet_words::line_of(number, said, shown(stands, clean), shown(stands, loading));
     write_line(line, out, at)
 }
 

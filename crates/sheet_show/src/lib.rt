@@ -3,7 +3,7 @@
 ghost use mathlib.Core.Path.{_≡_};
 ghost use mathlib.Core.List.{_++_};
 ghost use Prim.Native.Nat.{_+_, _≤_};
-ghost use lib.ListN.{length, drop};
+ghost use lib.ListN.{length};
 ghost use Rattle.sheet_lines.specs.Text.{decimal};
 ghost use Rattle.sheet_show.specs.Form.{shown, wordText, callText, recordText, headText, fieldText, usualAllow, textOf};
 use sheet_lines::Record;
@@ -18,12 +18,6 @@ pub const ROOM: usize = 200;
 pub struct Text {
     pub bytes: [u8; 200],
     pub len: usize,
-}
-
-// A number's digits, which begin at `from`.
-struct Spelled {
-    bytes: [u8; 20],
-    from: usize,
 }
 
 // Some bytes behind a text.
@@ -45,39 +39,13 @@ fn put(text: Text, word: &[u8]) -> Text
     }
 }
 
-// The decimal digits of a number.
-fn digits(number: u64) -> Spelled
-    ensures { λ r. ⌜ drop (r .from) (r .bytes) ≡ decimal number ⌝ }
-    ensures { λ r. ⌜ (r .from ≤ 20) × (length (r .bytes) ≡ 20) ⌝ }
-{
-    let mut bytes: [u8; 20] = [0; 20];
-    let mut n = number;
-    let mut from: usize = 20;
-    while 0 < from {
-        from -= 1;
-        if n < 10 {
-            bytes[from] = 48 + n as u8;
-            return Spelled {
-                bytes: bytes,
-                from: from,
-            };
-        }
-        bytes[from] = 48 + (n % 10) as u8;
-        n = n / 10;
-    }
-    Spelled {
-        bytes: bytes,
-        from: from,
-    }
-}
-
 // A number behind a text.
 fn put_number(text: Text, number: u64) -> Text
     requires { ⌜ text .len + 20 ≤ 200 ⌝ }
     ensures { λ r. ⌜ textOf r ≡ textOf text ++ decimal number ⌝ }
     ensures { λ r. ⌜ r .len ≤ text .len + 20 ⌝ }
 {
-    let shown = digits(number);
+    let shown = sheet_words::decimal(number);
     let bytes = shown.bytes;
     let from = shown.from;
     put(text, &bytes[from..])

@@ -3,6 +3,7 @@ ghost use mathlib.Core.Path.{_≡_};
 ghost use mathlib.Core.Bool.{_&&_};
 ghost use Rattle.sheet_uses.specs.Uses.{usesKey, usesPlace, usesAllow, usesNumber, uses, fits, isCode, onlyUsed};
 use sheet_lines::Record;
+use sheet_record::bit;
 
 // The key: access and lookup.
 fn uses_key(code: u8) -> bool
@@ -101,9 +102,6 @@ pub fn only_used(call: Record) -> bool
     let kind = both(file, fits(key, call.key.kind as u64));
     let index = both(kind, fits(key, call.key.index));
     let place = both(index, fits(uses_place(call.code), call.place as u64));
-    let allow = both(
-        place,
-        fits(uses_allow(call.code), sheet_record::bit(call.allow) as u64),
-    );
+    let allow = both(place, fits(uses_allow(call.code), bit(call.allow) as u64));
     both(allow, fits(uses_number(call.code), call.number as u64))
 }

@@ -78,7 +78,7 @@ fn put_record(out: &mut [u8], at: usize, number: u64, said: Said, s: Standing) -
     ensures { λ r. ⌜ Wrote (now (out .entry)) at (recordText number said s) r (now (out .exit)) ⌝ }
 {
     let t = s.state;
-    let line = sheet_lines::line_of(number, said, t.clean, t.loading);
+    let line = sheet_words::line_of(number, said, t.clean, t.loading);
     let a = put_line(out, at, line);
     if sheet_lines::is_bad(said) {
         return picture_numbers::put_text(out, a, b"\n");

@@ -1,11 +1,11 @@
--- `sheet_lines::front` meets its contract. Assumes nothing.
+-- `sheet_words::front` meets its contract. Assumes nothing.
 use mathlib.Core.Path.{_≡_}
 use lib.ListN.{length}
 use native.Mathlib.Omega.{arith}
 use borrow.Author.Needs.{needs}
-use Rattle.sheet_lines.proofs.Bytes.{front-at}
-use Rattle.sheet_lines.proofs.front.Statement.{statement}
-use Rattle.sheet_lines.proofs.front.Tie as tie
+use Rattle.sheet_words.proofs.Fronts.{front-at}
+use Rattle.sheet_words.proofs.front.Statement.{statement}
+use Rattle.sheet_words.proofs.front.Tie as tie
 
 returns : tie.Need-returns
 returns c =

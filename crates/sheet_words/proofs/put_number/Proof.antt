@@ -1,8 +1,8 @@
--- `sheet_lines::put_number` meets its contract. Assumes nothing.
+-- `sheet_words::put_number` meets its contract. Assumes nothing.
 use native.Mathlib.Omega.{arith}
 use borrow.Author.Needs.{needs}
-use Rattle.sheet_lines.proofs.put_number.Statement.{statement}
-use Rattle.sheet_lines.proofs.put_number.Tie as tie
+use Rattle.sheet_words.proofs.put_number.Statement.{statement}
+use Rattle.sheet_words.proofs.put_number.Tie as tie
 
 returns : tie.Need-returns
 returns c = (rw (c .before .before .said .given .1) (c .digits .ensures .0), c .digits .ensures .1)

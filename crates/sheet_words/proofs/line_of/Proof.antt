@@ -1,10 +1,10 @@
--- `sheet_lines::line_of` meets its contract. Assumes nothing.
+-- `sheet_words::line_of` meets its contract. Assumes nothing.
 use mathlib.Core.List.{append-assoc}
 use native.Mathlib.Omega.{arith}
 use Rattle.sheet_lines.specs.Words.{lineOf}
 use borrow.Author.Needs.{needs}
-use Rattle.sheet_lines.proofs.line_of.Statement.{statement}
-use Rattle.sheet_lines.proofs.line_of.Tie as tie
+use Rattle.sheet_words.proofs.line_of.Statement.{statement}
+use Rattle.sheet_words.proofs.line_of.Tie as tie
 
 returns : tie.Need-returns
 unfolding lineOf

@@ -1,4 +1,4 @@
--- `sheet_lines::put` meets its contract. The invariant: what stands is what is left of the text in front of the line. Assumes nothing.
+-- `sheet_words::put` meets its contract. The invariant: what stands is what is left of the text in front of the line. Assumes nothing.
 use Prim.Native.Nat.{_+_, _-_, _≤_}
 use mathlib.Core.Path.{_≡_, sym, _∙_, ap}
 use mathlib.Core.List.{_∷_, _++_}
@@ -6,9 +6,9 @@ use native.Mathlib.Omega.{arith}
 use lib.ListN.{length, drop, getD, length-set}
 use lib.Seq.{drop-length}
 use borrow.Author.Needs.{needs}
-use Rattle.sheet_lines.proofs.Bytes.{front-at, one-more}
-use Rattle.sheet_lines.proofs.put.Statement.{statement}
-use Rattle.sheet_lines.proofs.put.Tie as tie
+use Rattle.sheet_words.proofs.Fronts.{front-at, one-more}
+use Rattle.sheet_words.proofs.put.Statement.{statement}
+use Rattle.sheet_words.proofs.put.Tie as tie
 
 abbrev Inv-loop : tie.InvT-loop
 Inv-loop text bytes₀ from₀ left₀ bytes from left = (from₀ + left ≡ from + length text) × (left ≤ length text) × (length bytes ≡ 96) × (drop from bytes ≡ drop left text ++ drop from₀ bytes₀)

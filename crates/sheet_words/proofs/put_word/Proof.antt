@@ -1,9 +1,9 @@
--- `sheet_lines::put_word` meets its contract: each word is the text of its bytes. Assumes nothing.
+-- `sheet_words::put_word` meets its contract: each word is the text of its bytes. Assumes nothing.
 use native.Mathlib.Omega.{arith}
 use Rattle.sheet_lines.specs.Text.{bytesOf}
 use borrow.Author.Needs.{needs}
-use Rattle.sheet_lines.proofs.put_word.Statement.{statement}
-use Rattle.sheet_lines.proofs.put_word.Tie as tie
+use Rattle.sheet_words.proofs.put_word.Statement.{statement}
+use Rattle.sheet_words.proofs.put_word.Tie as tie
 
 returns : tie.Need-returns
 unfolding bytesOf

@@ -1,13 +1,14 @@
--- `sheet_lines::digits` meets its contract. The invariant: the digits still to be put in front of what stands are those of the whole number. Assumes nothing.
+-- `sheet_words::digits` meets its contract. The invariant: the digits still to be put in front of what stands are those of the whole number. Assumes nothing.
 use Prim.Native.Nat.{_+_, _%_, _≤_}
 use mathlib.Core.Path.{_≡_, refl, sym, _∙_}
 use native.Mathlib.Omega.{arith}
 use lib.ListN.{length, drop, length-set}
 use borrow.Author.Needs.{needs}
 use Rattle.sheet_lines.specs.Text.{digit, digitsFrom}
-use Rattle.sheet_lines.proofs.Bytes.{front-at, last-digit, more-digits, no-digits, decimal-front}
-use Rattle.sheet_lines.proofs.digits.Statement.{statement}
-use Rattle.sheet_lines.proofs.digits.Tie as tie
+use Rattle.sheet_lines.proofs.Bytes.{last-digit, more-digits, no-digits, decimal-front}
+use Rattle.sheet_words.proofs.Fronts.{front-at}
+use Rattle.sheet_words.proofs.digits.Statement.{statement}
+use Rattle.sheet_words.proofs.digits.Tie as tie
 
 abbrev Inv-loop : tie.InvT-loop
 Inv-loop number bytes₀ from₀ n₀ left₀ bytes from n left = (from₀ + left ≡ from + 20) × (left ≤ 20) × (length bytes ≡ 96) × (digitsFrom left n (drop from bytes) ≡ digitsFrom 20 number (drop from₀ bytes₀))

@@ -1,11 +1,11 @@
--- `sheet_lines::tail_of` meets its contract. Assumes nothing.
+-- `sheet_words::tail_of` meets its contract. Assumes nothing.
 use mathlib.Core.List.{append-assoc}
 use native.Mathlib.Omega.{arith}
 use Rattle.basics.proofs.Tests.{flag}
 use Rattle.sheet_lines.specs.Words.{tailOf}
 use borrow.Author.Needs.{needs}
-use Rattle.sheet_lines.proofs.tail_of.Statement.{statement}
-use Rattle.sheet_lines.proofs.tail_of.Tie as tie
+use Rattle.sheet_words.proofs.tail_of.Statement.{statement}
+use Rattle.sheet_words.proofs.tail_of.Tie as tie
 
 returns : tie.Need-returns
 unfolding tailOf
