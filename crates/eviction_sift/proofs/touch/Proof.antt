@@ -33,10 +33,22 @@ unfolding touchHeap placeOf touchAt sized
 returns-6 c = search tests
 
 returns-7 : tie.Need-returns-7
-returns-7 c = moved-refused _ _ (c .before .before .before .before .sift-down .ensures ∙ sym (touch-goes _ _ _ _ (place-is _ _ _ (c .before .before .before .before .before .before .before .before .before .before .before .before .before .before .if1 .left) (c .before .before .before .before .before .before .before .before .before .before .before .before .before .if2 .left) (c .before .before .before .before .before .before .before .before .before .before .before .before .if3 .left) (c .before .before .before .before .before .before .before .before .before .before .if4 .left) (c .before .before .before .before .before .before .before .if5 .left)) (c .before .before .before .before .before .if6 .left))) (c .before .before .answer .given .1) (c .refused7 .ensures) (entry-back _ _ _)
+returns-7 c =
+    let before6 = c .before .before .before .before .before .before in
+    let before12 = before6 .before .before .before .before .before .before in
+    moved-refused _ _ (c .before .before .before .before .sift-down .ensures
+    ∙ sym (touch-goes _ _ _ _ (place-is _ _ _ (before12 .before .before .if1 .left) (before12 .before .if2 .left) (before12 .if3 .left)
+    (before6 .before .before .before .before .if4 .left) (before6 .before .if5 .left))
+    (c .before .before .before .before .before .if6 .left))) (c .before .before .answer .given .1) (c .refused7 .ensures) (entry-back _ _ _)
 
 returns-8 : tie.Need-returns-8
-returns-8 c = moved-done _ _ (c .before .before .sift-down .ensures ∙ sym (touch-goes _ _ _ _ (place-is _ _ _ (c .before .before .before .before .before .before .before .before .before .before .before .before .if1 .left) (c .before .before .before .before .before .before .before .before .before .before .before .if2 .left) (c .before .before .before .before .before .before .before .before .before .before .if3 .left) (c .before .before .before .before .before .before .before .before .if4 .left) (c .before .before .before .before .before .if5 .left)) (c .before .before .before .if6 .left))) (c .enum-told .given .1)
+returns-8 c =
+    let before6 = c .before .before .before .before .before .before in
+    let before12 = before6 .before .before .before .before .before .before in
+    moved-done _ _ (c .before .before .sift-down .ensures
+    ∙ sym (touch-goes _ _ _ _ (place-is _ _ _ (before12 .if1 .left) (before6 .before .before .before .before .before .if2 .left)
+    (before6 .before .before .before .before .if3 .left) (before6 .before .before .if4 .left)
+    (c .before .before .before .before .before .if5 .left)) (c .before .before .before .if6 .left))) (c .enum-told .given .1)
 
 pub touch-spec : {M : Type 1} → statement M
 touch-spec =

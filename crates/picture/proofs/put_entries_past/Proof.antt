@@ -21,7 +21,13 @@ same-length : tie.Need-same-length
 same-length c = c .before .before .before .before .put .ensures .size
 
 returns : tie.Need-returns
-returns c = let n : length (c .before .before .before .before .before .before .before .before .before .before .args .entries) ≡ 256 = search (needs, mapped) in wrote-as (ap spaced (past-none entryNumbers (c .before .before .before .before .before .before .before .before .before .before .args .entries) (c .before .before .before .before .before .before .before .before .before .before .args .length) (256) (c .before .before .before .before .before .before .before .walk-entries .result .held) (omega arith) (c .before .before .before .before .before .before .before .walk-entries .ensures .1) (c .if1 .taken))) (c .before .before .before .before .put .ensures)
+returns c =
+    let entries = c .before .before .before .before .before .before .before .before .before .before .args .entries in
+    let walk-entries = c .before .before .before .before .before .before .before .walk-entries in
+    wrote-as (ap spaced
+    (past-none entryNumbers entries (c .before .before .before .before .before .before .before .before .before .before .args .length) (256)
+    (walk-entries .result .held) (omega arith) (walk-entries .ensures .1) (c .if1 .taken)))
+    (c .before .before .before .before .put .ensures)
 
 walk-entries-requires-2 : tie.Need-walk-entries-requires-2
 walk-entries-requires-2 c κs = tt
@@ -30,7 +36,15 @@ same-length-2 : tie.Need-same-length-2
 same-length-2 c = c .before .before .walk-entries2 .ensures .0 .size ∙ c .before .before .before .before .before .before .before .before .put .ensures .size
 
 returns-2 : tie.Need-returns-2
-returns-2 c = let n : length (c .before .before .before .before .before .before .before .before .before .before .before .before .before .before .args .entries) ≡ 256 = search (needs, mapped) in wrote-as (ap spaced (past-some entryNumbers (c .before .before .before .before .before .before .before .before .before .before .before .before .before .before .args .entries) (c .before .before .before .before .before .before .before .before .before .before .before .before .before .before .args .length) (256) (c .before .before .before .before .before .before .before .before .before .before .before .walk-entries .result .held) (omega arith) (c .before .before .before .before .before .before .before .before .before .before .before .walk-entries .ensures .1))) (numbers-joined (c .before .before .before .before .before .before .before .before .before .before .before .walk-entries .result .held ∷ []) (told entryNumbers false (c .before .before .before .before .before .before .before .before .before .before .before .before .before .before .args .length) (take (256) (drop (c .before .before .before .before .before .before .before .before .before .before .before .before .before .before .args .length) (c .before .before .before .before .before .before .before .before .before .before .before .before .before .before .args .entries)))) (c .before .before .before .before .before .before .before .before .put .ensures) (c .before .before .walk-entries2 .ensures .0))
+returns-2 c =
+    let entries = c .before .before .before .before .before .before .before .before .before .before .before .before .before .before .args .entries in
+    let n : length entries ≡ 256 = search (needs, mapped) in
+    let length-here = c .before .before .before .before .before .before .before .before .before .before .before .before .before .before .args .length in
+    let walk-entries = c .before .before .before .before .before .before .before .before .before .before .before .walk-entries in
+    wrote-as
+    (ap spaced (past-some entryNumbers entries length-here (256) (walk-entries .result .held) (omega arith) (walk-entries .ensures .1)))
+    (numbers-joined (walk-entries .result .held ∷ []) (told entryNumbers false length-here (take (256) (drop length-here entries)))
+    (c .before .before .before .before .before .before .before .before .put .ensures) (c .before .before .walk-entries2 .ensures .0))
 
 pub put-entries-past-spec : {M : Type 1} → statement M
 put-entries-past-spec =

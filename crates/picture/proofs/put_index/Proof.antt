@@ -22,11 +22,26 @@ put-words-requires-3 : tie.Need-put-words-requires-3
 put-words-requires-3 c κs = tt
 
 same-length : tie.Need-same-length
-same-length c = c .before .before .put-words3 .ensures .size ∙ c .before .before .before .before .before .before .before .put2 .ensures .size ∙ c .before .before .before .before .before .before .before .before .before .before .before .put-words2 .ensures .size ∙ c .before .before .before .before .before .before .before .before .before .before .before .before .before .before .before .before .put-words .ensures .size ∙ c .before .before .before .before .before .before .before .before .before .before .before .before .before .before .before .before .before .before .before .before .before .put .ensures .size
+same-length c =
+    let before6 = c .before .before .before .before .before .before in
+    let before12 = before6 .before .before .before .before .before .before in
+    let before18 = before12 .before .before .before .before .before .before in
+    c .before .before .put-words3 .ensures .size
+    ∙ before6 .before .put2 .ensures .size
+    ∙ before6 .before .before .before .before .before .put-words2 .ensures .size
+    ∙ before12 .before .before .before .before .put-words .ensures .size
+    ∙ before18 .before .before .before .put .ensures .size
 
 returns : tie.Need-returns
 unfolding indexNumbers
-returns c = numbers-joined _ _ (numbers-joined _ _ (numbers-joined _ _ (numbers-joined _ _ (c .before .before .before .before .before .before .before .before .before .before .before .before .before .before .before .before .before .before .before .before .before .put .ensures) (c .before .before .before .before .before .before .before .before .before .before .before .before .before .before .before .before .put-words .ensures)) (c .before .before .before .before .before .before .before .before .before .before .before .put-words2 .ensures)) (c .before .before .before .before .before .before .before .put2 .ensures)) (c .before .before .put-words3 .ensures)
+returns c =
+    let before6 = c .before .before .before .before .before .before in
+    let before12 = before6 .before .before .before .before .before .before in
+    let before18 = before12 .before .before .before .before .before .before in
+    numbers-joined _ _ (numbers-joined _ _ (numbers-joined _ _
+    (numbers-joined _ _ (before18 .before .before .before .put .ensures) (before12 .before .before .before .before .put-words .ensures))
+    (before6 .before .before .before .before .before .put-words2 .ensures)) (before6 .before .put2 .ensures))
+    (c .before .before .put-words3 .ensures)
 
 pub put-index-spec : {M : Type 1} → statement M
 put-index-spec =

@@ -21,7 +21,12 @@ same-length : tie.Need-same-length
 same-length c = c .before .before .before .before .put .ensures .size
 
 returns : tie.Need-returns
-returns c = let n : length (c .before .before .before .before .before .before .before .before .before .before .args .slots) ≡ 256 = search (needs, mapped) in wrote-as (ap spaced (past-none slotNumbers (c .before .before .before .before .before .before .before .before .before .before .args .slots) (c .before .before .before .before .before .before .before .before .before .before .args .length) (256) (c .before .before .before .before .before .before .before .walk-slots .result .held) (omega arith) (c .before .before .before .before .before .before .before .walk-slots .ensures .1) (c .if1 .taken))) (c .before .before .before .before .put .ensures)
+returns c =
+    let slots = c .before .before .before .before .before .before .before .before .before .before .args .slots in
+    let walk-slots = c .before .before .before .before .before .before .before .walk-slots in
+    wrote-as (ap spaced
+    (past-none slotNumbers slots (c .before .before .before .before .before .before .before .before .before .before .args .length) (256)
+    (walk-slots .result .held) (omega arith) (walk-slots .ensures .1) (c .if1 .taken))) (c .before .before .before .before .put .ensures)
 
 walk-slots-requires-2 : tie.Need-walk-slots-requires-2
 walk-slots-requires-2 c κs = tt
@@ -30,7 +35,14 @@ same-length-2 : tie.Need-same-length-2
 same-length-2 c = c .before .before .walk-slots2 .ensures .0 .size ∙ c .before .before .before .before .before .before .before .before .put .ensures .size
 
 returns-2 : tie.Need-returns-2
-returns-2 c = let n : length (c .before .before .before .before .before .before .before .before .before .before .before .before .before .before .args .slots) ≡ 256 = search (needs, mapped) in wrote-as (ap spaced (past-some slotNumbers (c .before .before .before .before .before .before .before .before .before .before .before .before .before .before .args .slots) (c .before .before .before .before .before .before .before .before .before .before .before .before .before .before .args .length) (256) (c .before .before .before .before .before .before .before .before .before .before .before .walk-slots .result .held) (omega arith) (c .before .before .before .before .before .before .before .before .before .before .before .walk-slots .ensures .1))) (numbers-joined (c .before .before .before .before .before .before .before .before .before .before .before .walk-slots .result .held ∷ []) (told slotNumbers false (c .before .before .before .before .before .before .before .before .before .before .before .before .before .before .args .length) (take (256) (drop (c .before .before .before .before .before .before .before .before .before .before .before .before .before .before .args .length) (c .before .before .before .before .before .before .before .before .before .before .before .before .before .before .args .slots)))) (c .before .before .before .before .before .before .before .before .put .ensures) (c .before .before .walk-slots2 .ensures .0))
+returns-2 c =
+    let slots = c .before .before .before .before .before .before .before .before .before .before .before .before .before .before .args .slots in
+    let n : length slots ≡ 256 = search (needs, mapped) in
+    let length-here = c .before .before .before .before .before .before .before .before .before .before .before .before .before .before .args .length in
+    let walk-slots = c .before .before .before .before .before .before .before .before .before .before .before .walk-slots in
+    wrote-as (ap spaced (past-some slotNumbers slots length-here (256) (walk-slots .result .held) (omega arith) (walk-slots .ensures .1)))
+    (numbers-joined (walk-slots .result .held ∷ []) (told slotNumbers false length-here (take (256) (drop length-here slots)))
+    (c .before .before .before .before .before .before .before .before .put .ensures) (c .before .before .walk-slots2 .ensures .0))
 
 pub put-slots-past-spec : {M : Type 1} → statement M
 put-slots-past-spec =

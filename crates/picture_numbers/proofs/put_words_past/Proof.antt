@@ -20,7 +20,13 @@ same-length : tie.Need-same-length
 same-length c = c .before .before .before .before .put .ensures .size
 
 returns : tie.Need-returns
-returns c = wrote-as (ap spaced (past-none wordNumbers (c .before .before .before .before .before .before .before .before .before .before .before .args .list .now) (c .before .before .before .before .before .before .before .before .before .before .before .args .length) (length (c .before .before .before .before .before .before .before .before .before .before .before .args .list .now)) (c .before .before .before .before .before .before .before .walk-words .result .held) (omega arith) (c .before .before .before .before .before .before .before .walk-words .ensures .1) (c .if1 .taken))) (c .before .before .before .before .put .ensures)
+returns c =
+    let list = c .before .before .before .before .before .before .before .before .before .before .before .args .list .now in
+    let walk-words = c .before .before .before .before .before .before .before .walk-words in
+    wrote-as (ap spaced
+    (past-none wordNumbers list (c .before .before .before .before .before .before .before .before .before .before .before .args .length)
+    (length list) (walk-words .result .held) (omega arith) (walk-words .ensures .1) (c .if1 .taken)))
+    (c .before .before .before .before .put .ensures)
 
 walk-words-requires-2 : tie.Need-walk-words-requires-2
 walk-words-requires-2 c κs = tt
@@ -29,7 +35,15 @@ same-length-2 : tie.Need-same-length-2
 same-length-2 c = c .before .before .walk-words2 .ensures .0 .size ∙ c .before .before .before .before .before .before .before .before .put .ensures .size
 
 returns-2 : tie.Need-returns-2
-returns-2 c = wrote-as (ap spaced (past-some wordNumbers (c .before .before .before .before .before .before .before .before .before .before .before .before .before .before .before .args .list .now) (c .before .before .before .before .before .before .before .before .before .before .before .before .before .before .before .args .length) (length (c .before .before .before .before .before .before .before .before .before .before .before .before .before .before .before .args .list .now)) (c .before .before .before .before .before .before .before .before .before .before .before .walk-words .result .held) (omega arith) (c .before .before .before .before .before .before .before .before .before .before .before .walk-words .ensures .1))) (numbers-joined (c .before .before .before .before .before .before .before .before .before .before .before .walk-words .result .held ∷ []) (told wordNumbers false (c .before .before .before .before .before .before .before .before .before .before .before .before .before .before .before .args .length) (take (length (c .before .before .before .before .before .before .before .before .before .before .before .before .before .before .before .args .list .now)) (drop (c .before .before .before .before .before .before .before .before .before .before .before .before .before .before .before .args .length) (c .before .before .before .before .before .before .before .before .before .before .before .before .before .before .before .args .list .now)))) (c .before .before .before .before .before .before .before .before .put .ensures) (c .before .before .walk-words2 .ensures .0))
+returns-2 c =
+    let list = c .before .before .before .before .before .before .before .before .before .before .before
+    .before .before .before .before .args .list .now in
+    let length-here = c .before .before .before .before .before .before .before .before .before .before .before .before .before .before .before .args .length in
+    let walk-words = c .before .before .before .before .before .before .before .before .before .before .before .walk-words in
+    wrote-as
+    (ap spaced (past-some wordNumbers list length-here (length list) (walk-words .result .held) (omega arith) (walk-words .ensures .1)))
+    (numbers-joined (walk-words .result .held ∷ []) (told wordNumbers false length-here (take (length list) (drop length-here list)))
+    (c .before .before .before .before .before .before .before .before .put .ensures) (c .before .before .walk-words2 .ensures .0))
 
 pub put-words-past-spec : {M : Type 1} → statement M
 put-words-past-spec =

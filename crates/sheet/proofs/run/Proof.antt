@@ -15,7 +15,10 @@ use Rattle.sheet.proofs.run.Statement.{statement}
 use Rattle.sheet.proofs.run.Tie as tie
 
 abbrev Inv-loop : tie.InvT-loop
-Inv-loop first bytes out₀ stepped₀ number₀ at₀ written₀ left₀ out stepped number at written left = (inFront (take written out) (runFrom left (stepped .standing) number (drop at bytes)) ≡ runFrom left₀ (stepped₀ .standing) number₀ bytes) × (drop written out ≡ drop written out₀) × (length out ≡ length out₀) × (written + 96 * left ≤ length out₀) × (number + left ≤ MAX) × (at ≤ length bytes)
+Inv-loop first bytes out₀ stepped₀ number₀ at₀ written₀ left₀ out stepped number at written left =
+    (inFront (take written out) (runFrom left (stepped .standing) number (drop at bytes)) ≡ runFrom left₀ (stepped₀ .standing) number₀ bytes)
+    × (drop written out ≡ drop written out₀) × (length out ≡ length out₀) × (written + 96 * left ≤ length out₀) × (number + left ≤ MAX) ×
+    (at ≤ length bytes)
 
 abbrev μ-loop : tie.MeasureT-loop
 μ-loop first bytes out₀ stepped₀ number₀ at₀ written₀ left₀ out stepped number at written left = left
@@ -30,11 +33,18 @@ same-length c = c .before .before .before .loop .inv .2
 returns : tie.Need-returns Inv-loop μ-loop
 returns c =
     let here = c .before .before .before .loop in
-    let given = c .before .before .before .before .before .before .before .args in
-    (run-end (here .left) (here .stepped .standing) (here .number) (drop (here .at) (given .bytes .now)) (take (here .written) (here .out)) (simp length-drop (omega arith)) ∙ here .inv .0 ∙ ap (λ k. runFrom k (given .standing) (given .first) (given .bytes .now)) (c .before .before .before .before .turns .ensures), (here .inv .1, (here .inv .2, omega arith)))
+    let given = c .before .before .before .before .before .before .before .args in (
+      run-end (here .left) (here .stepped .standing) (here .number) (drop (here .at) (given .bytes .now)) (take (here .written) (here .out))
+          (simp length-drop (omega arith))
+          ∙ here .inv .0
+          ∙ ap (λ k. runFrom k (given .standing) (given .first) (given .bytes .now)) (c .before .before .before .before .turns .ensures),
+      (here .inv .1, (here .inv .2, omega arith)),
+    )
 
 same-length-2 : tie.Need-same-length-2 Inv-loop μ-loop
-same-length-2 c = c .before .before .before .before .before .write-record .ensures .1 .1 .0 ∙ c .before .before .before .before .before .before .before .before .before .before .before .loop .inv .2
+same-length-2 c =
+    c .before .before .before .before .before .write-record .ensures .1 .1 .0
+    ∙ c .before .before .before .before .before .before .before .before .before .before .before .loop .inv .2
 
 returns-2 : tie.Need-returns-2 Inv-loop μ-loop
 unfolding lineAfter cleanOf loadingOf
@@ -47,8 +57,18 @@ returns-2 c =
     let turn = c .before .before .before .before .before .before .before .before .before .before .loop-test .taken in
     let room : here .written ≤ wrote .result = wrote .ensures .1 .1 .1 .0 in
     let more : 0 < length (drop (here .at) (given .bytes .now)) = simp length-drop (omega arith) in
-    let line = wrote .ensures .0 in
-    (run-bad (here .left) (here .stepped .standing) (here .number) (drop (here .at) (given .bytes .now)) (take (here .written) (here .out)) (take (wrote .result) (wrote .last .1 .1 .1 .1 .1 .0)) (stepped .result) told turn more line (sym (c .before .before .is-bad .ensures) ∙ c .before .if2 .taken) ∙ here .inv .0 ∙ ap (λ k. runFrom k (given .standing) (given .first) (given .bytes .now)) (c .before .before .before .before .before .before .before .before .before .before .before .before .turns .ensures), (wrote .ensures .1 .0 ∙ later (here .out) (given .out .now) (here .written) (wrote .result) room (here .inv .1), (wrote .ensures .1 .1 .0 ∙ here .inv .2, omega (arith, here .inv .3, wrote .ensures .1 .1 .1 .1, turn))))
+    let line = wrote .ensures .0 in (
+      run-bad (here .left) (here .stepped .standing) (here .number) (drop (here .at) (given .bytes .now)) (take (here .written) (here .out))
+          (take (wrote .result) (wrote .last .1 .1 .1 .1 .1 .0)) (stepped .result) told turn more line
+          (sym (c .before .before .is-bad .ensures) ∙ c .before .if2 .taken)
+          ∙ here .inv .0
+          ∙ ap (λ k. runFrom k (given .standing) (given .first) (given .bytes .now))
+          (c .before .before .before .before .before .before .before .before .before .before .before .before .turns .ensures),
+      (
+        wrote .ensures .1 .0 ∙ later (here .out) (given .out .now) (here .written) (wrote .result) room (here .inv .1),
+        (wrote .ensures .1 .1 .0 ∙ here .inv .2, omega (arith, here .inv .3, wrote .ensures .1 .1 .1 .1, turn)),
+      ),
+    )
 
 add-at : tie.Need-add-at Inv-loop μ-loop
 add-at c =
@@ -74,8 +94,17 @@ loop-again c =
     let line = wrote .ensures .0 in
     let good = sym (c .before .is-bad .ensures) ∙ c .if2 .left in
     let h = whole (here .stepped .standing) (drop (here .at) (given .bytes .now)) (stepped .result) told good in
-    let w = length-drop (here .at) (given .bytes .now) in
-    (rw (← drop-drop 24 (here .at) (given .bytes .now)) (run-on (here .left) (here .stepped .standing) (here .number) (drop (here .at) (given .bytes .now)) (take (here .written) (here .out)) (take (wrote .result) (wrote .last .1 .1 .1 .1 .1 .0)) (stepped .result) told turn more line good) ∙ here .inv .0, wrote .ensures .1 .0 ∙ later (here .out) (given .out .now) (here .written) (wrote .result) room (here .inv .1), wrote .ensures .1 .1 .0 ∙ here .inv .2, omega (arith, here .inv .3, wrote .ensures .1 .1 .1 .1, turn), omega (arith, here .inv .4, turn), omega arith)
+    let w = length-drop (here .at) (given .bytes .now) in (
+      rw (← drop-drop 24 (here .at) (given .bytes .now))
+          (run-on (here .left) (here .stepped .standing) (here .number) (drop (here .at) (given .bytes .now)) (take (here .written) (here .out))
+          (take (wrote .result) (wrote .last .1 .1 .1 .1 .1 .0)) (stepped .result) told turn more line good)
+          ∙ here .inv .0,
+      wrote .ensures .1 .0 ∙ later (here .out) (given .out .now) (here .written) (wrote .result) room (here .inv .1),
+      wrote .ensures .1 .1 .0 ∙ here .inv .2,
+      omega (arith, here .inv .3, wrote .ensures .1 .1 .1 .1, turn),
+      omega (arith, here .inv .4, turn),
+      omega arith,
+    )
 
 same-length-3 : tie.Need-same-length-3 Inv-loop μ-loop
 same-length-3 c = c .before .before .loop .inv .2
@@ -83,8 +112,13 @@ same-length-3 c = c .before .before .loop .inv .2
 returns-3 : tie.Need-returns-3 Inv-loop μ-loop
 returns-3 c =
     let here = c .before .before .loop in
-    let given = c .before .before .before .before .before .before .args in
-    (run-full (here .left) (here .stepped .standing) (here .number) (drop (here .at) (given .bytes .now)) (take (here .written) (here .out)) (omega arith) ∙ here .inv .0 ∙ ap (λ k. runFrom k (given .standing) (given .first) (given .bytes .now)) (c .before .before .before .turns .ensures), (here .inv .1, (here .inv .2, omega arith)))
+    let given = c .before .before .before .before .before .before .args in (
+      run-full (here .left) (here .stepped .standing) (here .number) (drop (here .at) (given .bytes .now)) (take (here .written) (here .out))
+          (omega arith)
+          ∙ here .inv .0
+          ∙ ap (λ k. runFrom k (given .standing) (given .first) (given .bytes .now)) (c .before .before .before .turns .ensures),
+      (here .inv .1, (here .inv .2, omega arith)),
+    )
 
 pub run-spec : {M : Type 1} → statement M
 run-spec =

@@ -12,7 +12,18 @@ use Rattle.sheet_text.proofs.next_word.Statement.{statement}
 use Rattle.sheet_text.proofs.next_word.Tie as tie
 
 returns : tie.Need-returns
-returns c = let e : (c .before .before .before .before .before .args .at + c .before .before .run-of .result) ≡ c .before .before .before .before .before .args .at + runOf true (drop (c .before .before .before .before .before .args .at) (c .before .before .before .before .before .args .text .now)) = ap (λ k. c .before .before .before .before .before .args .at + k) (c .before .before .run-of .ensures .0 ∙ ap (λ k. runOf true k) (all-from (c .before .before .before .before .before .args .text .now) (c .before .before .before .before .before .args .at) (length (c .before .before .before .before .before .args .text .now)) refl)) in (e, (ap (λ k. (c .before .before .before .before .before .args .at + c .before .before .run-of .result) + k) (size-at (c .before .before .before .before .before .args .text .now) (c .before .before .before .before .before .args .at) (c .before .before .before .before .before .args .at + c .before .before .run-of .result) (c .run-of2 .result) e (c .run-of2 .ensures .0)), omega (arith, part-length (c .before .before .before .before .before .args .text .now) (c .before .before .before .before .before .args .at) (length (c .before .before .before .before .before .args .text .now)) refl, part-length (c .before .before .before .before .before .args .text .now) (c .before .before .before .before .before .args .at + c .before .before .run-of .result) (length (c .before .before .before .before .before .args .text .now)) refl)))
+returns c =
+    let at = c .before .before .before .before .before .args .at in
+    let text = c .before .before .before .before .before .args .text .now in
+    let run-of = c .before .before .run-of in
+    let e : (at + run-of .result) ≡ at + runOf true (drop at text) = ap (λ k. at + k)
+    (run-of .ensures .0 ∙ ap (λ k. runOf true k) (all-from text at (length text) refl)) in (
+      e,
+      (
+        ap (λ k. (at + run-of .result) + k) (size-at text at (at + run-of .result) (c .run-of2 .result) e (c .run-of2 .ensures .0)),
+        omega (arith, part-length text at (length text) refl, part-length text (at + run-of .result) (length text) refl),
+      ),
+    )
 
 pub next-word-spec : {M : Type 1} → statement M
 next-word-spec =

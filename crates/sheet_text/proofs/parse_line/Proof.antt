@@ -14,7 +14,13 @@ slice-aggregate-text-says c = sym (length-take-le (c .before .find .result) (c .
 
 returns : tie.Need-returns
 unfolding lineSays
-returns c = (c .text-says .ensures .0 ∙ ap (λ k. textSays (take k (c .before .before .before .before .args .line .now))) (found-at 35 (c .before .before .before .before .args .line .now) (c .before .before .find .result) (c .before .before .find .ensures .0)), good-longer (c .text-says .result) (length (take (c .before .before .find .result) (c .before .before .before .before .args .line .now))) (length (c .before .before .before .before .args .line .now)) (omega (arith, length-take-le (c .before .before .find .result) (c .before .before .before .before .args .line .now) (c .before .before .find .ensures .1), c .before .before .find .ensures .1)) (c .text-says .ensures .1))
+returns c =
+    let line = c .before .before .before .before .args .line .now in
+    let find = c .before .before .find in (
+      c .text-says .ensures .0 ∙ ap (λ k. textSays (take k line)) (found-at 35 line (find .result) (find .ensures .0)),
+      good-longer (c .text-says .result) (length (take (find .result) line)) (length line)
+          (omega (arith, length-take-le (find .result) line (find .ensures .1), find .ensures .1)) (c .text-says .ensures .1),
+    )
 
 pub parse-line-spec : {M : Type 1} → statement M
 parse-line-spec =

@@ -32,14 +32,15 @@ returns c =
 returns-2 : tie.Need-returns-2
 unfolding withWord
 returns-2 c =
-    let word = c .before .before .before .before .before .before .before .before .args .word .now in
-    let find = c .before .before .before .before .before .before .find in
+    let before6 = c .before .before .before .before .before .before in
+    let word = before6 .before .before .args .word .now in
+    let find = before6 .find in
     let e = found-at 61 word (find .result) (find .ensures .0) in (
       rw (
         eq-eqb (indexOf 61 word) (length word) (sym e ∙ c .before .before .before .before .before .if1 .taken),
         number-wrong word (c .before .before .before .before .number-of .ensures) (c .before .before .why .given .1),
       ) (c .stop .ensures),
-      rw (c .stop .ensures) (c .before .before .before .before .before .before .before .before .pre),
+      rw (c .stop .ensures) (before6 .before .before .pre),
     )
 
 slice-aggregate-field-of : tie.Need-slice-aggregate-field-of
@@ -70,38 +71,40 @@ with-value-requires-2 c κs = (
 returns-4 : tie.Need-returns-4
 unfolding withWord
 returns-4 c =
-    let word = c .before .before .before .before .before .before .before .before .before .before .before .before .args .word .now in
-    let find = c .before .before .before .before .before .before .before .before .before .before .find in
+    let before6 = c .before .before .before .before .before .before in
+    let before12 = before6 .before .before .before .before .before .before in
+    let word = before12 .args .word .now in
+    let find = before6 .before .before .before .before .find in
     let value2 = c .before .before .value2 in
     let e = found-at 61 word (find .result) (find .ensures .0) in
-    let f = c .before .before .before .before .before .before .before .field-of .ensures ∙ ap (λ k. fieldOf (take k word)) e in
+    let f = before6 .before .field-of .ensures ∙ ap (λ k. fieldOf (take k word)) e in
     let g = number-is (drop ((indexOf 61 word) + 1) word) (c .before .before .before .before .number-of2 .ensures
     ∙ ap numberOf (all-from word (find .result + 1) (length word) refl ∙ ap (λ k. drop (k + 1) word) e)) (value2 .given .1) in (
       rw (
-        ne-eqb (indexOf 61 word) (length word) (λ q. c .before .before .before .before .before .before .before .before .before .if1 .left (e ∙ q)),
-        le-ltb 6 (fieldOf (take (indexOf 61 word) word)) (subst (λ k. k ≤ 6) f (c .before .before .before .before .before .before .if2 .left)),
+        ne-eqb (indexOf 61 word) (length word) (λ q. before6 .before .before .before .if1 .left (e ∙ q)),
+        le-ltb 6 (fieldOf (take (indexOf 61 word) word)) (subst (λ k. k ≤ 6) f (before6 .if2 .left)),
         g,
-      ) (c .with-value2 .ensures .0
-          ∙ ap (λ k. withValue (c .before .before .before .before .before .before .before .before .before .before .before .before .args .begun) k
-          (value2 .given .0 .0)) f),
+      ) (c .with-value2 .ensures .0 ∙ ap (λ k. withValue (before12 .args .begun) k (value2 .given .0 .0)) f),
       c .with-value2 .ensures .1,
     )
 
 returns-5 : tie.Need-returns-5
 unfolding withWord
 returns-5 c =
-    let word = c .before .before .before .before .before .before .before .before .before .before .before .before .args .word .now in
-    let find = c .before .before .before .before .before .before .before .before .before .before .find in
+    let before6 = c .before .before .before .before .before .before in
+    let before12 = before6 .before .before .before .before .before .before in
+    let word = before12 .args .word .now in
+    let find = before6 .before .before .before .before .find in
     let e = found-at 61 word (find .result) (find .ensures .0) in
-    let f = c .before .before .before .before .before .before .before .field-of .ensures ∙ ap (λ k. fieldOf (take k word)) e in
+    let f = before6 .before .field-of .ensures ∙ ap (λ k. fieldOf (take k word)) e in
     let g = number-wrong (drop ((indexOf 61 word) + 1) word) (c .before .before .before .before .number-of2 .ensures
     ∙ ap numberOf (all-from word (find .result + 1) (length word) refl ∙ ap (λ k. drop (k + 1) word) e)) (c .before .before .why2 .given .1) in (
       rw (
-        ne-eqb (indexOf 61 word) (length word) (λ q. c .before .before .before .before .before .before .before .before .before .if1 .left (e ∙ q)),
-        le-ltb 6 (fieldOf (take (indexOf 61 word) word)) (subst (λ k. k ≤ 6) f (c .before .before .before .before .before .before .if2 .left)),
+        ne-eqb (indexOf 61 word) (length word) (λ q. before6 .before .before .before .if1 .left (e ∙ q)),
+        le-ltb 6 (fieldOf (take (indexOf 61 word) word)) (subst (λ k. k ≤ 6) f (before6 .if2 .left)),
         g,
       ) (c .stop3 .ensures),
-      rw (c .stop3 .ensures) (c .before .before .before .before .before .before .before .before .before .before .before .before .pre),
+      rw (c .stop3 .ensures) (before12 .pre),
     )
 
 pub with-word-spec : {M : Type 1} → statement M

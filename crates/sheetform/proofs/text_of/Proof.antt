@@ -1,4 +1,5 @@
--- `sheetform::text_of` meets its contract. The invariant: what is written, and the lines of the records that are left behind it, are the lines of all. Assumes nothing.
+-- `sheetform::text_of` meets its contract. The invariant: what is written, and the lines of the records that are left behind it, are the lines of
+-- all. Assumes nothing.
 use Prim.Native.Nat.{_-_, _+_, _*_, _/_, _≤_}
 use Rattle.sheet_show.specs.Form.{shown, listedText}
 use native.Mathlib.Omega.{arith}
@@ -40,7 +41,8 @@ returns-2 c =
     ∙ sym (c .before .before .read-record .ensures .0)
     ∙ c .enum-told .given .1 in (
       sym (append-nil (take (loop .written) (loop .out)))
-          ∙ ap (λ l. take (loop .written) (loop .out) ++ l) (sym (listed-bad bytes (loop .at) (loop .left) (c .before .before .before .before .before .loop-test .taken)
+          ∙ ap (λ l. take (loop .written) (loop .out) ++ l)
+          (sym (listed-bad bytes (loop .at) (loop .left) (c .before .before .before .before .before .loop-test .taken)
           (c .before .before .before .before .if1 .left) e))
           ∙ loop .inv .4,
       (omega arith, loop .inv .0),
@@ -48,7 +50,8 @@ returns-2 c =
 
 loop-again : tie.Need-loop-again Inv-loop μ-loop
 loop-again c =
-    let bytes = c .before .before .before .before .before .before .before .before .before .before .before .before .before .before .before .args .bytes .now in
+    let bytes = c .before .before .before .before .before .before .before .before .before .before .before
+    .before .before .before .before .args .bytes .now in
     let loop = c .before .before .before .before .before .before .before .before .before .before .before .before .loop in
     let call = c .before .before .before .before .before .before .call in
     let show-record = c .before .before .before .before .show-record in
@@ -72,8 +75,8 @@ loop-again c =
 returns-3 : tie.Need-returns-3 Inv-loop μ-loop
 returns-3 c = (
   sym (append-nil (take (c .before .loop .written) (c .before .loop .out)))
-      ∙ ap (λ l. take (c .before .loop .written) (c .before .loop .out) ++ l)
-      (sym (listed-end (c .before .before .before .before .args .bytes .now) (c .before .loop .at) (c .before .loop .left) (c .loop-test .left)))
+      ∙ ap (λ l. take (c .before .loop .written) (c .before .loop .out) ++ l) (sym
+      (listed-end (c .before .before .before .before .args .bytes .now) (c .before .loop .at) (c .before .loop .left) (c .loop-test .left)))
       ∙ c .before .loop .inv .4,
   (omega arith, c .before .loop .inv .0),
 )
