@@ -87,7 +87,9 @@ occupy t key slot = do
 unfoldable pub reserve : State → CacheKey → ℕ → Try (After Given)
 reserve t key slot = do
   need (not (eqb (t .«next_load_generation») MAX)) EXHAUSTED
-  if eqb (t .«next_access_sequence») MAX then ok (record { table = withNumbers t (t .«next_load_generation» + 1) (t .«next_access_sequence»); answer = refuse EXHAUSTED }) else occupy t key slot
+  if eqb (t .«next_access_sequence») MAX then
+      ok (record { table = withNumbers t (t .«next_load_generation» + 1) (t .«next_access_sequence»); answer = refuse EXHAUSTED })
+      else occupy t key slot
 
 -- "capacity-busy + 1, CapacityBusy"
 unfoldable pub capacityBusy : State → After Given

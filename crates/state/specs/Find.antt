@@ -54,7 +54,10 @@ unfoldable pub hitAt : State → CacheKey → ℕ → Try Seek
 hitAt t key slot = do
   h ← touchNext (t .capacity) (t .eviction) slot (t .«next_access_sequence»)
   let n = t .«next_access_sequence» + 1
-  ok (record { table = withCounters (withSlot (withNumbers (withHeap t h) (t .«next_load_generation») n) slot (cleanSlot key n)) (countHit (t .counters)); seen = found slot })
+  ok (record {
+    table = withCounters (withSlot (withNumbers (withHeap t h) (t .«next_load_generation») n) slot (cleanSlot key n)) (countHit (t .counters));
+    seen = found slot;
+  })
 
 -- clean: a hit; loading: "in-progress + 1"
 unfoldable pub seekAt : State → CacheKey → Option ℕ → Try Seek

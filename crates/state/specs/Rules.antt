@@ -24,5 +24,11 @@ use Rattle.state.specs.Remove.{detachClean, removeClean, needClean, deta
 use Rattle.state.specs.Reads.{validate, peekFrom, peekClean, cleanEntry, coldCandidate, oldestClean}
 
 unfoldable pub tableRules : ℕ
-unfolding more doubled powerOver needCapacity down keep every some? first eachSlot sameKey bucketOf bucketCount countFor sizes roomFrom canInsert insertIndex unlinked removeFrom removeIndex topVacant takeVacant releaseIndex freshIndex noIndex newIndex older freshHeap noHeap newHeap heap-entries.sized candidateAt oldestOf victimFrom victimOf swapped upTo childOf downTo siftFrom insertHeap placeOf touchAt touchHeap popped putAt settle removeAt removeHeap occupied cleanWith empty fresh noTable new soundSizes findFrom findKey touchNext hitAt seekAt seek victim targetOr target takeTop evict free loadInto occupy reserve capacityBusy reserveAt choose miss accessSeen access vacate loadsFor outstanding publish abort foundSeen lookup detachClean removeClean needClean detachCounted remove detach validate peekFrom peekClean cleanEntry coldCandidate oldestClean
+unfolding more doubled powerOver needCapacity down keep every some? first eachSlot sameKey bucketOf bucketCount countFor sizes roomFrom
+    canInsert insertIndex unlinked removeFrom removeIndex topVacant takeVacant releaseIndex freshIndex noIndex newIndex older freshHeap
+    noHeap newHeap heap-entries.sized candidateAt oldestOf victimFrom victimOf swapped upTo childOf downTo siftFrom insertHeap placeOf
+    touchAt touchHeap popped putAt settle removeAt removeHeap occupied cleanWith empty fresh noTable new soundSizes findFrom findKey
+    touchNext hitAt seekAt seek victim targetOr target takeTop evict free loadInto occupy reserve capacityBusy reserveAt choose miss
+    accessSeen access vacate loadsFor outstanding publish abort foundSeen lookup detachClean removeClean needClean detachCounted remove
+    detach validate peekFrom peekClean cleanEntry coldCandidate oldestClean
 tableRules = 0
