@@ -22,7 +22,8 @@ use Rattle.laws_table.specs.Table.{Valid, Step}
 -- the slots removed from t, in order, each "chosen as a victim is" of the table that those before it left, and what they leave
 pub data Removals (pins : List ℕ) (t : State) : State → List ℕ → Type 0 where
   none-yet! : Removals pins t t []
-  one-more! : {u w : State} {xs : List ℕ} (x : ℕ) → Removals pins t u xs → victim (u .capacity) (u .eviction) (u .clean) pins ≡ ok (some x) → isClean (slotAt u x) ≡ true → unpinned pins x ≡ true
+  one-more! : {u w : State} {xs : List ℕ} (x : ℕ) → Removals pins t u xs
+      → victim (u .capacity) (u .eviction) (u .clean) pins ≡ ok (some x) → isClean (slotAt u x) ≡ true → unpinned pins x ≡ true
       → Step u w x vacantSlot (u .«next_access_sequence») (u .«next_load_generation») (u .clean - 1) (u .loading) → Removals pins t w (xs ++ (x ∷ []))
 
 -- "the first min(clean, 64) heap places" are all pinned
@@ -31,9 +32,11 @@ AllPinned t pins = (j : ℕ) → j < min (t .clean) PLACES → unpinned pins (at
 
 pub data ReclaimOutcome (t : State) (limit : ℕ) (pins : List ℕ) (r : Reclaiming) : Type 0 where
   -- "a refusal gives count 0 and 65535 throughout"
-  refused! : (length pins ≡ t .capacity → ⊥) → r ≡ record { table = t; answer = refuse PINS; count = 0; slots = noSlots } → ReclaimOutcome t limit pins r
+  refused! : (length pins ≡ t .capacity → ⊥) → r ≡ record { table = t; answer = refuse PINS; count = 0; slots = noSlots }
+      → ReclaimOutcome t limit pins r
   -- "It hands back their numbers in order, as 64 numbers of which the unused are 65535, with the count"; fewer than asked only where none can be chosen
-  reclaimed! : (u : State) (xs : List ℕ) → r ≡ record { table = u; answer = ok done; count = length xs; slots = xs ++ replicate (BATCH - length xs) NONE } → Removals pins t u xs
+  reclaimed! : (u : State) (xs : List ℕ)
+      → r ≡ record { table = u; answer = ok done; count = length xs; slots = xs ++ replicate (BATCH - length xs) NONE } → Removals pins t u xs
       → (length xs ≡ min limit BATCH) ⊎ ((length xs < min limit BATCH) × AllPinned u pins) → ReclaimOutcome t limit pins r
 
 -- what a reclaim leaves: a valid table, and an answer that is not 10

@@ -17,7 +17,9 @@ use Rattle.laws_maintenance.specs.Calm.{Calm, Present, Full}
 -- or "those refused by a chain"
 pub data Why (t n : State) (pins : List ℕ) (s : ℕ) : Type 0 where
   too-many! : n .capacity < t .clean
-      → ((r : ℕ) → r < t .capacity → isClean (slotAt t r) ≡ true → unpinned pins r ≡ true → Present n (slotAt t r .key) → slotAt t s .«last_access» ≤ slotAt t r .«last_access») → Why t n pins s
+      → ((r : ℕ) → r < t .capacity → isClean (slotAt t r) ≡ true → unpinned pins r ≡ true → Present n (slotAt t r .key)
+      → slotAt t s .«last_access» ≤ slotAt t r .«last_access»)
+      → Why t n pins s
   full-chain! : Full n (slotAt t s .key) → Why t n pins s
 
 -- what became of the key in the clean slot s: it is in the slot that the list gives, with its last use;
@@ -25,7 +27,8 @@ pub data Why (t n : State) (pins : List ℕ) (s : ℕ) : Type 0 where
 pub data Place (t n : State) (pins list : List ℕ) (s : ℕ) : Type 0 where
   kept! : getD list s NONE < n .capacity → isClean (slotAt n (getD list s NONE)) ≡ true → slotAt n (getD list s NONE) .key ≡ slotAt t s .key
       → slotAt n (getD list s NONE) .«last_access» ≡ slotAt t s .«last_access» → Place t n pins list s
-  lost! : getD list s NONE ≡ NONE → Absent n (slotAt t s .key) → unpinned pins s ≡ true → n .capacity < t .capacity → Why t n pins s → Place t n pins list s
+  lost! : getD list s NONE ≡ NONE → Absent n (slotAt t s .key)
+      → unpinned pins s ≡ true → n .capacity < t .capacity → Why t n pins s → Place t n pins list s
 
 -- the old slot to which the list gives the new slot x, and whose key and last use x has
 pub record Source (t n : State) (list : List ℕ) (x : ℕ) : Type 0 where

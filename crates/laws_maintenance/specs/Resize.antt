@@ -21,11 +21,16 @@ pub data ResizeOutcome (t : State) (asked : ℕ) (pins list : List ℕ) (r : Res
   refused! : (n : ℕ) → r ≡ record { table = t; answer = refuse n; list = list } → (n ≡ STOP → ⊥) → ResizeOutcome t asked pins list r
   unchanged! : r ≡ listed t unchanged list → (asked ≡ t .capacity) ⊎ (raised asked pins ≡ t .capacity) → ResizeOutcome t asked pins list r
   -- "Any loading: Busy"; or a chain refuses a pinned key, which growing never meets
-  busy! : r ≡ listed t busyNow list → (0 < t .loading) ⊎ ((raised asked pins < t .capacity) × Chokes t pins (raised asked pins)) → ResizeOutcome t asked pins list r
+  busy! : r ≡ listed t busyNow list
+      → (0 < t .loading) ⊎ ((raised asked pins < t .capacity) × Chokes t pins (raised asked pins))
+      → ResizeOutcome t asked pins list r
   -- "No clean slot and shrinking: a fresh table, all counts 0."
-  emptied! : r ≡ listed (fresh (raised asked pins)) (resized (raised asked pins)) (replicate (t .capacity) NONE) → t .loading ≡ 0 → t .clean ≡ 0 → 0 < raised asked pins → raised asked pins < t .capacity → ResizeOutcome t asked pins list r
+  emptied! : r ≡ listed (fresh (raised asked pins)) (resized (raised asked pins)) (replicate (t .capacity) NONE)
+      → t .loading ≡ 0 → t .clean ≡ 0 → 0 < raised asked pins → raised asked pins < t .capacity
+      → ResizeOutcome t asked pins list r
   -- the raised capacity is the one made, never a doubled one
-  remade! : Remade t pins r → r .table .capacity ≡ raised asked pins → (t .clean ≡ 0 → t .capacity < raised asked pins) → ResizeOutcome t asked pins list r
+  remade! : Remade t pins r → r .table .capacity ≡ raised asked pins → (t .clean ≡ 0 → t .capacity < raised asked pins)
+      → ResizeOutcome t asked pins list r
 
 -- what a resize leaves: a valid table, and an answer that is not 10
 pub record ResizeKept (r : Resizing) : Type 0 where

@@ -63,7 +63,8 @@ Inv t = Parts (t .slots) (t .capacity) (t .index) (t .eviction) (t .clean) (t .l
 -- no two slots below c hold the same key
 abbrev pub Distinct : List Slot → ℕ → Type 0
 Distinct ss c =
-    (x y : ℕ) → x < c → y < c → occupied (getD ss x vacantSlot) ≡ true → occupied (getD ss y vacantSlot) ≡ true → getD ss x vacantSlot .key ≡ getD ss y vacantSlot .key → x ≡ y
+    (x y : ℕ) → x < c → y < c → occupied (getD ss x vacantSlot) ≡ true → occupied (getD ss y vacantSlot) ≡ true
+    → getD ss x vacantSlot .key ≡ getD ss y vacantSlot .key → x ≡ y
 
 -- no slot below c was last used after the use number n
 abbrev pub Dated : List Slot → ℕ → ℕ → Type 0

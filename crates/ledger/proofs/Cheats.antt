@@ -15,10 +15,11 @@ use Rattle.state.specs.declared.State.{State}
 use Rattle.state.specs.Answers.{Given, reserved, After}
 use Rattle.state.specs.Fresh.{fresh}
 use Rattle.ledger.specs.Calls.{Call, access, publish, resize, reclaim, rules, run, log}
-use Rattle.ledger.specs.Ledger.{begin}
+use Rattle.ledger.specs.Ledger.{Held, begin}
 use Rattle.ledger.specs.Claim.{Shown, nothing, loads, keeps, Demand3}
 use Rattle.ledger.specs.Opened.{opened}
-use Rattle.ledger.specs.Cheats.{busyFirst, neverPublishes, sparesOldest, untouched, refusesAll, ignoresPins, publishesTwice, overReports, resizeIgnoresPins, losesGrowing, changesLastUse, evictsPinned, refusesEarly, givesLast}
+use Rattle.ledger.specs.Cheats.{busyFirst, neverPublishes, sparesOldest, untouched, refusesAll, ignoresPins, publishesTwice, overReports}
+use Rattle.ledger.specs.Cheats.{resizeIgnoresPins, losesGrowing, changesLastUse, evictsPinned, refusesEarly, givesLast}
 use Rattle.ledger.proofs.Samples.Premises.{meetsAll, fair-all}
 use Rattle.ledger.proofs.Samples.Ends.{next-to-end}
 use Rattle.ledger.proofs.Samples.Words.{key, token, word, slotIn, wordFine}
@@ -62,7 +63,8 @@ no-spares-oldest d =
     let pins : List ℕ = 0 ∷ 0 ∷ [] in
     let cs : List Call = access (key 1) true pins ∷ publish (token 0 1 1 1) ∷ access (key 2) true pins ∷ publish (token 1 2 2 2) ∷ [] in
     let kept = d 2 (omega arith) (omega arith) cs (fair-all (begin 2) (log sparesOldest (fresh 2) cs) refl) in
-    let z : _≡_ {A = ℕ} 1 0 = kept .oldestGoes (key 3) true pins (token 1 3 3 3) (record { key = key 1; slot = 0; clean = true; last = 1 }) refl refl tt in omega arith
+    let old : Held = record { key = key 1; slot = 0; clean = true; last = 1 } in
+    let z : _≡_ {A = ℕ} 1 0 = kept .oldestGoes (key 3) true pins (token 1 3 3 3) old refl refl tt in omega arith
 
 -- the pins are not looked at: with the one clean key pinned the access must be CapacityBusy
 pub no-ignores-pins : Demand3 ignoresPins → ⊥
@@ -70,7 +72,8 @@ unfolding opened meetsAll
 no-ignores-pins d =
     let cs : List Call = access (key 1) true (0 ∷ []) ∷ publish (token 0 1 1 1) ∷ [] in
     let kept = d 1 (omega arith) (omega arith) cs (fair-all (begin 1) (log ignoresPins (fresh 1) cs) refl) in
-    let z : _≡_ {A = ℕ} 3 4 = ap word (kept .next (access (key 2) true (1 ∷ [])) (record { token = tt; uses = omega arith; generations = omega arith })) in omega arith
+    let given = kept .next (access (key 2) true (1 ∷ [])) (record { token = tt; uses = omega arith; generations = omega arith }) in
+    let z : _≡_ {A = ℕ} 3 4 = ap word given in omega arith
 
 -- ── tables ──
 -- how many slots show a key
@@ -147,7 +150,8 @@ no-evicts-pinned d =
     ]
 
 -- ── 7 too early ──
-early-stops : (t : State) (r : After Given) (slot : ℕ) → (if givesLast (r .answer) then record { table = t; answer = refuse EXHAUSTED } else r) .answer ≡ ok (reserved (token slot MAX 1 MAX)) → ⊥
+early-stops : (t : State) (r : After Given) (slot : ℕ)
+    → (if givesLast (r .answer) then record { table = t; answer = refuse EXHAUSTED } else r) .answer ≡ ok (reserved (token slot MAX 1 MAX)) → ⊥
 early-stops t r slot =
     elim (is (givesLast (r .answer))) [
       | yes! q ↦ rw q (λ e. let z : _≡_ {A = ℕ} 5 2 = ap word e in omega arith)

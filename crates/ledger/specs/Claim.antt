@@ -22,7 +22,8 @@ use Rattle.state.specs.Answers.{Given, reserved, evicted, busy}
 use Rattle.state.specs.Fresh.{fresh}
 use Rattle.ledger.specs.Calls.{Machine, Call, Event, accessed, published, aborted, looked, removed, detached, resized, reclaimed, event, run, log}
 use Rattle.ledger.specs.Ledger.{Ledger, Held, begin, nextToken, feedResize, feed, feeds}
-use Rattle.ledger.specs.Expect.{Expect, exactly, vacancy, goes, oneGoes, unpinned, cleanOnes, oldest, expect, wasGiven, outstanding, expectEnd, resizeKeeps}
+use Rattle.ledger.specs.Expect.{Expect, exactly, vacancy, goes, oneGoes, unpinned, cleanOnes, oldest, expect, wasGiven, outstanding}
+use Rattle.ledger.specs.Expect.{expectEnd, resizeKeeps}
 
 -- ── the table holds exactly the ledger's keys, each once ──
 -- what a slot shows: nothing, a loading key, or a clean key with its last use
@@ -64,7 +65,8 @@ Gives l key pins vacancy answer =
     (slot : ℕ) × T (ltb slot (l .capacity)) × T (not (some? (λ h. eqb (h .slot) slot) (l .held))) × (answer ≡ ok (reserved (nextToken l key slot)))
 Gives l key pins (goes h) answer = answer ≡ ok (evicted (nextToken l key (h .slot)))
 Gives l key pins (oneGoes may) answer =
-    ((slot : ℕ) × T (some? (λ h. eqb (h .slot) slot && unpinned pins h) (cleanOnes l)) × (answer ≡ ok (evicted (nextToken l key slot)))) ⊎ (T may × (answer ≡ ok busy))
+    ((slot : ℕ) × T (some? (λ h. eqb (h .slot) slot && unpinned pins h) (cleanOnes l)) × (answer ≡ ok (evicted (nextToken l key slot))))
+    ⊎ (T may × (answer ≡ ok busy))
 
 -- the answer of access, publish or abort is what the ledger gives, or among those that it leaves open; and what holds over a resize
 abbrev pub Allowed : Ledger → Event → Type 0
@@ -119,8 +121,11 @@ pub record Kept (m : Machine) (t : State) (l : Ledger) : Type 0 where
       T (unpinned pins h) → k .slot ≡ h .slot
   -- a token is good exactly until it is published or aborted, whatever the counts
   pub good : (k : LoadToken) → T (outstanding l k) → (m .publish t k .answer ≡ ok done) × (m .abort t k .answer ≡ ok done)
-  pub spent : (k : LoadToken) → T (wasGiven l k) → T (not (outstanding l k)) → (m .publish t k .answer ≡ refuse STALE) × (m .abort t k .answer ≡ refuse STALE)
+  pub spent : (k : LoadToken) → T (wasGiven l k) → T (not (outstanding l k))
+      → (m .publish t k .answer ≡ refuse STALE) × (m .abort t k .answer ≡ refuse STALE)
 
 -- after every list of calls with any arguments, refused ones included, from a fresh table of 1 to 256 slots
 abbrev pub Demand3 : Machine → Type 0
-Demand3 m = (c : ℕ) → 0 < c → c ≤ 256 → (calls : List Call) → FairAll (begin c) (log m (fresh c) calls) → Kept m (run m (fresh c) calls) (ledgerOf m c calls)
+Demand3 m =
+    (c : ℕ) → 0 < c → c ≤ 256 → (calls : List Call) → FairAll (begin c) (log m (fresh c) calls)
+    → Kept m (run m (fresh c) calls) (ledgerOf m c calls)

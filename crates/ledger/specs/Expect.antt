@@ -54,7 +54,8 @@ pub data Expect : Type 0 where
   goes : Held → Expect
   oneGoes : Bool → Expect
 
--- "with no unpinned clean key, CapacityBusy; else the clean key of smallest last use goes if unpinned; if it is pinned, some unpinned clean key goes, or, only with 64 or more clean keys pinned, CapacityBusy may come instead"
+-- "with no unpinned clean key, CapacityBusy; else the clean key of smallest last use goes if unpinned; if it is pinned, some unpinned clean key
+-- goes, or, only with 64 or more clean keys pinned, CapacityBusy may come instead"
 unfoldable pub expectVictim : Ledger → List ℕ → Option Held → Expect
 expectVictim l pins none = exactly (ok busy)
 expectVictim l pins (some h) =
@@ -62,7 +63,8 @@ expectVictim l pins (some h) =
     if unpinned pins h then goes h else
     oneGoes (leb PINNED (length (keep (λ o. not (unpinned pins o)) (cleanOnes l))))
 
--- "Hit with the key's slot if clean, LoadInProgress if loading. Absent: CapacityBusy if loading is not allowed or 64 present keys share its bucket; else reserved without eviction .. if fewer keys than capacity are present"
+-- "Hit with the key's slot if clean, LoadInProgress if loading. Absent: CapacityBusy if loading is not allowed or 64 present keys share its
+-- bucket; else reserved without eviction .. if fewer keys than capacity are present"
 unfoldable pub expectKey : Ledger → CacheKey → Bool → List ℕ → Option Held → Expect
 expectKey l key allow pins (some h) = if h .clean then exactly (ok (hit (h .slot))) else exactly (ok inProgress)
 expectKey l key allow pins none =
@@ -78,7 +80,8 @@ expect l key allow pins =
 
 -- the same token, all of its four parts
 unfoldable pub sameToken : LoadToken → LoadToken → Bool
-sameToken a b = eqb (a .slot) (b .slot) && eqb (a .generation) (b .generation) && sameKey (a .key) (b .key) && eqb (a .«access_sequence») (b .«access_sequence»)
+sameToken a b =
+    eqb (a .slot) (b .slot) && eqb (a .generation) (b .generation) && sameKey (a .key) (b .key) && eqb (a .«access_sequence») (b .«access_sequence»)
 
 -- the token was given out since the ledger began
 unfoldable pub wasGiven : Ledger → LoadToken → Bool
@@ -103,4 +106,5 @@ present l h = some? (sameUse h) (l .held)
 -- "Over a resize pinned keys stay, last uses stay, no key appears, and growing loses none.": the ledger before it and after it
 unfoldable pub resizeKeeps : List ℕ → Ledger → Ledger → Bool
 resizeKeeps pins old new =
-    every (λ h. unpinned pins h || present new h) (old .held) && every (present old) (new .held) && (not (ltb (old .capacity) (new .capacity)) || every (present new) (old .held))
+    every (λ h. unpinned pins h || present new h) (old .held) && every (present old) (new .held)
+    && (not (ltb (old .capacity) (new .capacity)) || every (present new) (old .held))

@@ -26,4 +26,6 @@ Runs (reclaimed limit pins a count slots) = Goes a
 
 -- after every list of calls, with no premise on tokens or counts
 abbrev pub StaysValid : Machine → Type 0
-StaysValid m = (c : ℕ) → 0 < c → c ≤ 256 → (calls : List Call) → Valid (run m (fresh c) calls) × ((next : Call) → Runs (event m (run m (fresh c) calls) next))
+StaysValid m =
+    (c : ℕ) → 0 < c → c ≤ 256 → (calls : List Call)
+    → Valid (run m (fresh c) calls) × ((next : Call) → Runs (event m (run m (fresh c) calls) next))

@@ -167,7 +167,8 @@ fn walk_words(
     count: usize,
     bare: bool,
 ) -> Walked
-    ensures { λ r. ⌜ Wrote (now (out .entry)) at (spaced (told wordNumbers bare from (take count (drop from (now (list .entry)))))) (r .at) (now (out .exit)) ⌝ }
+    ensures { λ r. ⌜ Wrote (now (out .entry)) at
+        (spaced (told wordNumbers bare from (take count (drop from (now (list .entry)))))) (r .at) (now (out .exit)) ⌝ }
     ensures { λ r. ⌜ r .held ≡ held wordNumbers (take count (drop from (now (list .entry)))) ⌝ }
 {
     let mut i = least(from, list.len());

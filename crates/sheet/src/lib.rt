@@ -62,7 +62,8 @@ fn write_record(
     at: usize,
 ) -> usize
     requires { ⌜ at + 96 ≤ length (now out) ⌝ }
-    ensures { λ r. ⌜ take r (now (out .exit)) ≡ take at (now (out .entry)) ++ lineOf number said (if stands then clean else 0) (if stands then loading else 0) ⌝ }
+    ensures { λ r. ⌜ take r (now (out .exit))
+        ≡ take at (now (out .entry)) ++ lineOf number said (if stands then clean else 0) (if stands then loading else 0) ⌝ }
     ensures { λ r. ⌜ drop r (now (out .exit)) ≡ drop r (now (out .entry)) ⌝ }
     ensures { λ r. ⌜ length (now (out .exit)) ≡ length (now (out .entry)) ⌝ }
     ensures { λ r. ⌜ (at ≤ r) × (r ≤ at + 96) ⌝ }

@@ -114,7 +114,9 @@ struct Pinned {
 // 2: a reservation puts its token in the named place. (Beside the word of access, in one struct, it would cost a table more.)
 fn hold(places: [Place; 16], place: usize, answer: Access) -> [Place; 16]
     requires { ⌜ place < 16 ⌝ }
-    ensures { λ r. ⌜ ((was : State) (pins : List ℕ) (stands : Bool) (t : State) → sayAccess (record { state = was; places = places; pins = pins; stands = stands }) place t (accessAnswer answer) .standing ≡ record { state = t; places = r; pins = pins; stands = stands }) ⌝ }
+    ensures { λ r. ⌜ ((was : State) (pins : List ℕ) (stands : Bool) (t : State)
+        → sayAccess (record { state = was; places = places; pins = pins; stands = stands }) place t (accessAnswer answer) .standing
+        ≡ record { state = t; places = r; pins = pins; stands = stands }) ⌝ }
 {
     match answer {
         Access::Hit(_) => places,
@@ -174,7 +176,9 @@ fn found_word(answer: Found) -> Said
 
 // 6: a pin goes with its key.
 fn after_remove(pins: [u8; 256], slot: usize, answer: Done) -> Pinned
-    ensures { λ r. ⌜ ((t : State) (places : List Place) (stands : Bool) → sayRemoved (record { state = t; places = places; pins = pins; stands = stands }) slot (doneAnswer answer) ≡ says (record { state = t; places = places; pins = r .pins; stands = stands }) (r .said)) ⌝ }
+    ensures { λ r. ⌜ ((t : State) (places : List Place) (stands : Bool)
+        → sayRemoved (record { state = t; places = places; pins = pins; stands = stands }) slot (doneAnswer answer)
+        ≡ says (record { state = t; places = places; pins = r .pins; stands = stands }) (r .said)) ⌝ }
 {
     if let Done::Refused(why) = answer {
         return Pinned {
@@ -246,7 +250,9 @@ fn move_pins(old: [u8; 256], list: &[u16]) -> [u8; 256]
 // 8: a pin goes with its key, to the slot that the list gives it.
 fn after_resize(pins: [u8; 256], list: &[u16], answer: Maintenance) -> Pinned
     requires { ⌜ length (now list) ≤ 256 ⌝ }
-    ensures { λ r. ⌜ ((was : State) (places : List Place) (stands : Bool) (t : State) → saySize (record { state = was; places = places; pins = pins; stands = stands }) t (now (list .entry)) (sizeAnswer answer) ≡ says (record { state = t; places = places; pins = r .pins; stands = stands }) (r .said)) ⌝ }
+    ensures { λ r. ⌜ ((was : State) (places : List Place) (stands : Bool) (t : State)
+        → saySize (record { state = was; places = places; pins = pins; stands = stands }) t (now (list .entry)) (sizeAnswer answer)
+        ≡ says (record { state = t; places = places; pins = r .pins; stands = stands }) (r .said)) ⌝ }
 {
     match answer {
         Maintenance::Unchanged => Pinned {

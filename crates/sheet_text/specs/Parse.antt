@@ -144,7 +144,8 @@ ask used what = if used then what else 0
 unfoldable pub plainCall : ℕ → ℕ → Begun
 plainCall code allow = record {
   values = code ∷ allow ∷ 0 ∷ 0 ∷ 0 ∷ 0 ∷ 0 ∷ [];
-  asks = 0 ∷ ask (eqb code 2) MAY ∷ ask (uses code 5) MAY ∷ ask (uses code 3) MAY ∷ ask (uses code 4) MUST ∷ ask (uses code 5) MAY ∷ ask (uses code 5) MAY ∷ [];
+  asks = 0 ∷ ask (eqb code 2) MAY ∷ ask (uses code 5) MAY ∷ ask (uses code 3) MAY
+      ∷ ask (uses code 4) MUST ∷ ask (uses code 5) MAY ∷ ask (uses code 5) MAY ∷ [];
   wrong = 0;
 }
 
@@ -158,7 +159,8 @@ callOf w = wordPlace callNames w
 -- an access allows a load where its line does not say
 unfoldable pub begin : ℕ → Begun
 begin call =
-    if eqb call 10 then record { values = 1 ∷ 0 ∷ 0 ∷ 0 ∷ 0 ∷ 0 ∷ 0 ∷ []; asks = MUST ∷ MAY ∷ MAY ∷ MAY ∷ MAY ∷ MAY ∷ MAY ∷ []; wrong = 0 } else
+    if eqb call 10 then
+    record { values = 1 ∷ 0 ∷ 0 ∷ 0 ∷ 0 ∷ 0 ∷ 0 ∷ []; asks = MUST ∷ MAY ∷ MAY ∷ MAY ∷ MAY ∷ MAY ∷ MAY ∷ []; wrong = 0 } else
     if eqb call 9 then plainCall 7 0 else
     if eqb call 1 then plainCall 2 1 else
     if eqb call 6 then plainCall 7 1 else
