@@ -1,8 +1,8 @@
 // SPDX-FileCopyrightText: 2026 roolrz
 // SPDX-License-Identifier: Apache-2.0
 
-// index.rs, the chains: whether one takes a slot, a slot put in or taken out, and one given up. Each function works on any value: where the Rust would stop, the
-// answer is the refusal 10 and the index is as it came.
+// index.rs, the chains: whether one takes a slot, a slot put in or taken out, and one given up. Each function works on any value: where the Rust
+// would stop, the answer is the refusal 10 and the index is as it came.
 ghost use mathlib.Core.Path.{_≡_};
 ghost use Rattle.index.specs.declared.Index.{Index};
 ghost use Rattle.index.specs.Answers.{movedOf, roomAnswer};
