@@ -21,3 +21,4 @@ pub mod ResizeLaw
 pub mod ReclaimLaw
 pub mod ReclaimedSlots
 pub mod CallsKeep
+pub mod Untouched

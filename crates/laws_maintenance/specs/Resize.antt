@@ -4,14 +4,14 @@ use mathlib.Core.Path.{_≡_}
 use mathlib.Core.Logic.{_⊎_}
 use mathlib.Core.List.{List}
 use lib.ListN.{replicate}
-use Rattle.basics.specs.Try.{refuse}
+use Rattle.basics.specs.Try.{Try, ok, refuse}
 use Rattle.basics.specs.Refusals.{STOP}
 use Rattle.basics.specs.Numbers.{NONE}
 use Rattle.state.specs.declared.State.{State}
 use Rattle.state.specs.Fresh.{fresh}
-use Rattle.maintenance_resize.specs.Answers.{unchanged, busyNow, resized, Resizing}
+use Rattle.maintenance_resize.specs.Answers.{Size, unchanged, busyNow, resized, Resizing}
 use Rattle.maintenance_resize.specs.Pins.{raised}
-use Rattle.maintenance_resize.specs.Resize.{listed}
+use Rattle.maintenance_resize.specs.Resize.{listed, resize}
 use Rattle.laws_table.specs.Table.{Valid}
 use Rattle.laws_maintenance.specs.Drawn.{Chokes}
 use Rattle.laws_maintenance.specs.Remade.{Remade}
@@ -36,3 +36,13 @@ pub data ResizeOutcome (t : State) (asked : ℕ) (pins list : List ℕ) (r : Res
 pub record ResizeKept (r : Resizing) : Type 0 where
   pub valid : Valid (r .table)
   pub runs : r .answer ≡ refuse STOP → ⊥
+
+-- "Unchanged, Busy and refusals touch neither it nor the table.", whatever the table: by the answer of a resize
+abbrev pub Untouched : State → List ℕ → Resizing → Try Size → Type 0
+Untouched t list r (ok unchanged) = (r .table ≡ t) × (r .list ≡ list)
+Untouched t list r (ok busyNow) = (r .table ≡ t) × (r .list ≡ list)
+Untouched t list r (ok (resized c)) = Unit {0}
+Untouched t list r (refuse n) = (r .table ≡ t) × (r .list ≡ list)
+
+abbrev pub ResizeTouches : Type 0
+ResizeTouches = (t : State) (asked : ℕ) (pins list : List ℕ) → Untouched t list (resize t asked pins list) (resize t asked pins list .answer)

@@ -4,3 +4,4 @@ pub mod ResizeStands
 pub mod StepsStand
 pub mod Sheets
 pub mod Samples
+pub mod Places

@@ -1,3 +1,4 @@
 pub mod Orderly
 pub mod Refusals
 pub mod Shown
+pub mod Places
