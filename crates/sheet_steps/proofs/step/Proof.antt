@@ -51,22 +51,23 @@ slice-aggregate-access c =
 
 hold-requires : tie.Need-hold-requires
 hold-requires c κs =
-    let before6 = c .before .before .before .before .before .before in
-    let before12 = before6 .before .before .before .before .before .before in
-    place-told _ (before12 .read .given .1) (before12 .before .before .read-record .ensures .1)
+    place-told _ (c .before .before .before .before .before .before .before .before .before .before .before .before .read .given .1)
+    (c .before .before .before .before .before .before .before .before .before .before .before
+    .before .before .before .read-record .ensures .1)
 
 returns-5 : tie.Need-returns-5
 unfolding stepCode
 returns-5 c =
-    let before6 = c .before .before .before .before .before .before in
-    let before12 = before6 .before .before .before .before .before .before in
-    let before18 = before12 .before .before .before .before .before .before in
-    let access = c .before .before .before .access in
-    access-made _ _ (access .result) _ (pins-known (before18)) (c .before .before .before .before .before .lent .ensures) (access .ensures)
-    (c .before .hold .ensures) (c .access-word .ensures)
-    ∙ sym (step-code _ _ _ (before12 .before .before .before .before .read-record .ensures .0) (before12 .before .before .read .given .1)
-    (before12 .if1 .left) (before6 .before .before .before .before .if2 .left)
-    ∙ ap (stepCode _ _) (before6 .before .if3 .taken))
+    access-made _ _ (c .before .before .before .access .result) _
+    (pins-known (c .before .before .before .before .before .before .before .before .before .before .before
+    .before .before .before .before .before .before .before)) (c .before .before .before .before .before .lent .ensures)
+    (c .before .before .before .access .ensures) (c .before .hold .ensures) (c .access-word .ensures)
+    ∙ sym (step-code _ _ _ (c .before .before .before .before .before .before .before .before .before .before .before
+    .before .before .before .before .before .read-record .ensures .0)
+    (c .before .before .before .before .before .before .before .before .before .before .before .before .before .before .read .given .1)
+    (c .before .before .before .before .before .before .before .before .before .before .before .before .if1 .left)
+    (c .before .before .before .before .before .before .before .before .before .before .if2 .left)
+    ∙ ap (stepCode _ _) (c .before .before .before .before .before .before .before .if3 .taken))
 
 mul-held : tie.Need-mul-held
 mul-held c =
@@ -83,25 +84,26 @@ array-copy-out-held c =
 returns-6 : tie.Need-returns-6
 unfolding stepCode
 returns-6 c =
-    let before6 = c .before .before .before .before .before .before in
-    let before12 = before6 .before .before .before .before .before .before in
     publish-empty _ _ (not-true _ (c .if5 .taken))
-    ∙ sym (step-code _ _ _ (before12 .before .read-record .ensures .0) (before6 .before .before .before .before .before .read .given .1)
-    (before6 .before .before .before .if1 .left) (before6 .before .if2 .left)
+    ∙ sym (step-code _ _ _
+    (c .before .before .before .before .before .before .before .before .before .before .before .before .before .read-record .ensures .0)
+    (c .before .before .before .before .before .before .before .before .before .before .before .read .given .1)
+    (c .before .before .before .before .before .before .before .before .before .if1 .left)
+    (c .before .before .before .before .before .before .before .if2 .left)
     ∙ ap (stepCode _ _) (c .before .before .before .if4 .taken))
 
 returns-7 : tie.Need-returns-7
 unfolding stepCode
 returns-7 c =
-    let before6 = c .before .before .before .before .before .before in
-    let before12 = before6 .before .before .before .before .before .before in
-    let publish = c .before .before .publish in
-    publish-made _ _ (publish .result) (not-false _ (c .before .before .before .before .if5 .left)) (publish .ensures)
-    (c .done-word .ensures)
-    ∙ sym (step-code _ _ _ (before12 .before .before .before .before .before .read-record .ensures .0)
-    (before12 .before .before .before .read .given .1) (before12 .before .if1 .left)
-    (before6 .before .before .before .before .before .if2 .left)
-    ∙ ap (stepCode _ _) (before6 .before .if4 .taken))
+    publish-made _ _ (c .before .before .publish .result) (not-false _ (c .before .before .before .before .if5 .left))
+    (c .before .before .publish .ensures) (c .done-word .ensures)
+    ∙ sym (step-code _ _ _ (c .before .before .before .before .before .before .before .before .before .before .before
+    .before .before .before .before .before .before .read-record .ensures .0)
+    (c .before .before .before .before .before .before .before .before .before .before .before
+    .before .before .before .before .read .given .1)
+    (c .before .before .before .before .before .before .before .before .before .before .before .before .before .if1 .left)
+    (c .before .before .before .before .before .before .before .before .before .before .before .if2 .left)
+    ∙ ap (stepCode _ _) (c .before .before .before .before .before .before .before .if4 .taken))
 
 mul-shown : tie.Need-mul-shown
 mul-shown c =
@@ -118,77 +120,81 @@ array-copy-out-shown c =
 returns-8 : tie.Need-returns-8
 unfolding stepCode
 returns-8 c =
-    let before6 = c .before .before .before .before .before .before in
-    let before12 = before6 .before .before .before .before .before .before in
     abort-empty _ _ (not-true _ (c .if7 .taken))
-    ∙ sym (step-code _ _ _ (before12 .before .before .read-record .ensures .0) (before12 .read .given .1)
-    (before6 .before .before .before .before .if1 .left) (before6 .before .before .if2 .left)
+    ∙ sym (step-code _ _ _ (c .before .before .before .before .before .before .before .before .before .before .before
+    .before .before .before .read-record .ensures .0)
+    (c .before .before .before .before .before .before .before .before .before .before .before .before .read .given .1)
+    (c .before .before .before .before .before .before .before .before .before .before .if1 .left)
+    (c .before .before .before .before .before .before .before .before .if2 .left)
     ∙ ap (stepCode _ _) (c .before .before .before .if6 .taken))
 
 returns-9 : tie.Need-returns-9
 unfolding stepCode
 returns-9 c =
-    let before6 = c .before .before .before .before .before .before in
-    let before12 = before6 .before .before .before .before .before .before in
-    let before18 = before12 .before .before .before .before .before .before in
-    let abort = c .before .before .abort in
-    abort-made _ _ (abort .result) (not-false _ (c .before .before .before .before .if7 .left)) (abort .ensures) (c .done-word2 .ensures)
-    ∙ sym (step-code _ _ _ (before18 .read-record .ensures .0) (before12 .before .before .before .before .read .given .1)
-    (before12 .before .before .if1 .left) (before12 .if2 .left)
-    ∙ ap (stepCode _ _) (before6 .before .if6 .taken))
+    abort-made _ _ (c .before .before .abort .result) (not-false _ (c .before .before .before .before .if7 .left))
+    (c .before .before .abort .ensures) (c .done-word2 .ensures)
+    ∙ sym (step-code _ _ _ (c .before .before .before .before .before .before .before .before .before .before .before
+    .before .before .before .before .before .before .before .read-record .ensures .0)
+    (c .before .before .before .before .before .before .before .before .before .before .before
+    .before .before .before .before .before .read .given .1)
+    (c .before .before .before .before .before .before .before .before .before .before .before .before .before .before .if1 .left)
+    (c .before .before .before .before .before .before .before .before .before .before .before .before .if2 .left)
+    ∙ ap (stepCode _ _) (c .before .before .before .before .before .before .before .if6 .taken))
 
 returns-10 : tie.Need-returns-10
 unfolding stepCode
 returns-10 c =
-    let before6 = c .before .before .before .before .before .before in
-    let before12 = before6 .before .before .before .before .before .before in
-    let lookup = c .before .before .lookup in
-    lookup-made _ _ (lookup .result) (lookup .ensures) (c .found-word .ensures)
-    ∙ sym (step-code _ _ _ (before12 .before .before .before .before .read-record .ensures .0) (before12 .before .before .read .given .1)
-    (before12 .if1 .left) (before6 .before .before .before .before .if2 .left)
+    lookup-made _ _ (c .before .before .lookup .result) (c .before .before .lookup .ensures) (c .found-word .ensures)
+    ∙ sym (step-code _ _ _ (c .before .before .before .before .before .before .before .before .before .before .before
+    .before .before .before .before .before .read-record .ensures .0)
+    (c .before .before .before .before .before .before .before .before .before .before .before .before .before .before .read .given .1)
+    (c .before .before .before .before .before .before .before .before .before .before .before .before .if1 .left)
+    (c .before .before .before .before .before .before .before .before .before .before .if2 .left)
     ∙ ap (stepCode _ _) (c .before .before .before .before .if8 .taken))
 
 returns-11 : tie.Need-returns-11
 unfolding stepCode
 returns-11 c =
-    let before6 = c .before .before .before .before .before .before in
-    let before12 = before6 .before .before .before .before .before .before in
-    let remove-clean = c .before .before .before .remove-clean in
-    remove-made _ _ (remove-clean .result) (remove-clean .ensures) (c .before .after-remove .ensures)
-    ∙ sym (step-code _ _ _ (before12 .before .before .before .before .before .read-record .ensures .0)
-    (before12 .before .before .before .read .given .1) (before12 .before .if1 .left)
-    (before6 .before .before .before .before .before .if2 .left)
+    remove-made _ _ (c .before .before .before .remove-clean .result) (c .before .before .before .remove-clean .ensures)
+    (c .before .after-remove .ensures)
+    ∙ sym (step-code _ _ _ (c .before .before .before .before .before .before .before .before .before .before .before
+    .before .before .before .before .before .before .read-record .ensures .0)
+    (c .before .before .before .before .before .before .before .before .before .before .before
+    .before .before .before .before .read .given .1)
+    (c .before .before .before .before .before .before .before .before .before .before .before .before .before .if1 .left)
+    (c .before .before .before .before .before .before .before .before .before .before .before .if2 .left)
     ∙ ap (stepCode _ _) (c .before .before .before .before .if9 .taken))
 
 returns-12 : tie.Need-returns-12
 unfolding stepCode
 returns-12 c =
-    let before6 = c .before .before .before .before .before .before in
-    let before12 = before6 .before .before .before .before .before .before in
-    let before18 = before12 .before .before .before .before .before .before in
     pin-refused _ _ _ (c .before .before .before .check-clean .ensures) (c .before .clean .given .1)
-    ∙ sym (step-code _ _ _ (before18 .read-record .ensures .0) (before12 .before .before .before .before .read .given .1)
-    (before12 .before .before .if1 .left) (before12 .if2 .left)
+    ∙ sym (step-code _ _ _ (c .before .before .before .before .before .before .before .before .before .before .before
+    .before .before .before .before .before .before .before .read-record .ensures .0)
+    (c .before .before .before .before .before .before .before .before .before .before .before
+    .before .before .before .before .before .read .given .1)
+    (c .before .before .before .before .before .before .before .before .before .before .before .before .before .before .if1 .left)
+    (c .before .before .before .before .before .before .before .before .before .before .before .before .if2 .left)
     ∙ ap (stepCode _ _) (c .before .before .before .before .if10 .taken))
 
 pin-to-requires : tie.Need-pin-to-requires
 pin-to-requires c κs =
-    let before6 = c .before .before .before .before .before .before in
-    let before12 = before6 .before .before .before .before .before .before in
-    let before18 = before12 .before .before .before .before .before .before in
-    pins-known (before18 .before .before .before)
+    pins-known (c .before .before .before .before .before .before .before .before .before .before .before
+    .before .before .before .before .before .before .before .before .before .before)
 
 returns-13 : tie.Need-returns-13
 unfolding stepCode
 returns-13 c =
-    let before6 = c .before .before .before .before .before .before in
-    let before12 = before6 .before .before .before .before .before .before in
-    let before18 = before12 .before .before .before .before .before .before in
     pin-made _ _ (c .before .before .before .before .before .check-clean .ensures) (c .before .before .before .enum-told3 .given .1)
     (c .before .pin-byte .ensures) (c .pin-to .ensures)
-    ∙ sym (step-code _ _ _ (before18 .before .before .read-record .ensures .0) (before18 .read .given .1)
-    (before12 .before .before .before .before .if1 .left) (before12 .before .before .if2 .left)
-    ∙ ap (stepCode _ _) (before6 .if10 .taken))
+    ∙ sym (step-code _ _ _ (c .before .before .before .before .before .before .before .before .before .before .before
+    .before .before .before .before .before .before .before .before .before .read-record .ensures .0)
+    (c .before .before .before .before .before .before .before .before .before .before .before
+    .before .before .before .before .before .before .before .read .given .1)
+    (c .before .before .before .before .before .before .before .before .before .before .before
+    .before .before .before .before .before .if1 .left)
+    (c .before .before .before .before .before .before .before .before .before .before .before .before .before .before .if2 .left)
+    ∙ ap (stepCode _ _) (c .before .before .before .before .before .before .if10 .taken))
 
 array-share-prefix-pins-2 : tie.Need-array-share-prefix-pins-2
 array-share-prefix-pins-2 c =
@@ -198,21 +204,22 @@ array-share-prefix-pins-2 c =
 
 slice-aggregate-resize : tie.Need-slice-aggregate-resize
 slice-aggregate-resize c =
-    let lent2 = c .before .before .lent2 in
     let e = pins-known (c .before .before .before .before .before .before .before .before .before .before .before
     .before .before .before .before .before .before .before .before) in
-    sym (length-take-le (lent2 .result) (c .before .before .before .before .before .before .before .before .before .before .before
-    .before .before .before .before .before .before .before .before .args .s .pins) (omega (arith, e, lent2 .ensures)))
+    sym (length-take-le (c .before .before .lent2 .result)
+    (c .before .before .before .before .before .before .before .before .before .before .before
+    .before .before .before .before .before .before .before .before .args .s .pins) (omega (arith, e, c .before .before .lent2 .ensures)))
 
 slice-aggregate-resize-2 : tie.Need-slice-aggregate-resize-2
 slice-aggregate-resize-2 c =
-    let lent2 = c .before .before .before .lent2 in
-    sym (length-take-le (lent2 .result) (replicate 256 NONE) (omega (arith, lent2 .ensures)))
+    sym (length-take-le (c .before .before .before .lent2 .result) (replicate 256 NONE)
+    (omega (arith, c .before .before .before .lent2 .ensures)))
 
 list-known : (c : tie.After-resize) → length (c .resize .last .1 .1 .1 .0) ≡ c .before .before .before .before .lent2 .result
 list-known c =
-    let lent2 = c .before .before .before .before .lent2 in
-    c .resize .kept .1 .1 .1 .0 ∙ length-take-le (lent2 .result) (replicate 256 NONE) (omega (arith, lent2 .ensures))
+    c .resize .kept .1 .1 .1 .0
+    ∙ length-take-le (c .before .before .before .before .lent2 .result) (replicate 256 NONE)
+    (omega (arith, c .before .before .before .before .lent2 .ensures))
 
 array-share-prefix-list : tie.Need-array-share-prefix-list
 array-share-prefix-list c =
@@ -233,16 +240,21 @@ after-resize-requires c κs =
 returns-14 : tie.Need-returns-14
 unfolding stepCode
 returns-14 c =
-    let before6 = c .before .before .before .before .before .before in
-    let before12 = before6 .before .before .before .before .before .before in
-    let before18 = before12 .before .before .before .before .before .before in
-    let before24 = before18 .before .before .before .before .before .before in
-    let resize = c .before .before .before .before .before .resize in
-    resize-made _ _ (resize .result) _ _ (pins-known (before24 .before .before)) (before6 .before .before .before .lent2 .ensures)
-    (resize .ensures) (list-known (c .before .before .before .before .before)) (c .before .after-resize .ensures)
-    ∙ sym (step-code _ _ _ (before24 .read-record .ensures .0) (before18 .before .before .before .before .read .given .1)
-    (before18 .before .before .if1 .left) (before18 .if2 .left)
-    ∙ ap (stepCode _ _) (before6 .before .before .if11 .taken))
+    resize-made _ _ (c .before .before .before .before .before .resize .result) _ _
+    (pins-known (c .before .before .before .before .before .before .before .before .before .before .before
+    .before .before .before .before .before .before .before .before .before .before .before .before
+    .before .before .before)) (c .before .before .before .before .before .before .before .before .before .lent2 .ensures)
+    (c .before .before .before .before .before .resize .ensures) (list-known (c .before .before .before .before .before))
+    (c .before .after-resize .ensures)
+    ∙ sym (step-code _ _ _ (c .before .before .before .before .before .before .before .before .before .before .before
+    .before .before .before .before .before .before .before .before .before .before .before .before
+    .before .read-record .ensures .0) (c .before .before .before .before .before .before .before .before .before .before .before
+    .before .before .before .before .before .before .before .before .before .before .before .read .given .1)
+    (c .before .before .before .before .before .before .before .before .before .before .before
+    .before .before .before .before .before .before .before .before .before .if1 .left)
+    (c .before .before .before .before .before .before .before .before .before .before .before
+    .before .before .before .before .before .before .before .if2 .left)
+    ∙ ap (stepCode _ _) (c .before .before .before .before .before .before .before .before .if11 .taken))
 
 array-share-prefix-pins-3 : tie.Need-array-share-prefix-pins-3
 array-share-prefix-pins-3 c =
@@ -252,24 +264,30 @@ array-share-prefix-pins-3 c =
 
 slice-aggregate-reclaim : tie.Need-slice-aggregate-reclaim
 slice-aggregate-reclaim c =
-    let lent2 = c .before .before .lent2 in
     let e = pins-known (c .before .before .before .before .before .before .before .before .before .before .before
     .before .before .before .before .before .before .before .before) in
-    sym (length-take-le (lent2 .result) (c .before .before .before .before .before .before .before .before .before .before .before
-    .before .before .before .before .before .before .before .before .args .s .pins) (omega (arith, e, lent2 .ensures)))
+    sym (length-take-le (c .before .before .lent2 .result)
+    (c .before .before .before .before .before .before .before .before .before .before .before
+    .before .before .before .before .before .before .before .before .args .s .pins) (omega (arith, e, c .before .before .lent2 .ensures)))
 
 returns-15 : tie.Need-returns-15
 returns-15 c =
-    let before6 = c .before .before .before .before .before .before in
-    let before12 = before6 .before .before .before .before .before .before in
-    let before18 = before12 .before .before .before .before .before .before in
-    let reclaim = c .before .before .reclaim in
-    reclaim-made _ _ (reclaim .result) _ (pins-known (before18 .before .before .before .before))
-    (c .before .before .before .before .before .lent2 .ensures) (reclaim .ensures) (c .count-word .ensures)
-    ∙ sym (step-rest _ _ _ (before18 .before .before .read-record .ensures .0) (before18 .read .given .1)
-    (before12 .before .before .before .before .if1 .left) (before12 .before .before .if2 .left)
-    (before6 .before .before .before .before .before .if3 .left) (before6 .before .before .before .before .if4 .left)
-    (before6 .before .before .before .if6 .left) (before6 .before .before .if8 .left) (before6 .before .if9 .left) (before6 .if10 .left)
+    reclaim-made _ _ (c .before .before .reclaim .result) _
+    (pins-known (c .before .before .before .before .before .before .before .before .before .before .before
+    .before .before .before .before .before .before .before .before .before .before .before))
+    (c .before .before .before .before .before .lent2 .ensures) (c .before .before .reclaim .ensures) (c .count-word .ensures)
+    ∙ sym (step-rest _ _ _ (c .before .before .before .before .before .before .before .before .before .before .before
+    .before .before .before .before .before .before .before .before .before .read-record .ensures .0)
+    (c .before .before .before .before .before .before .before .before .before .before .before
+    .before .before .before .before .before .before .before .read .given .1)
+    (c .before .before .before .before .before .before .before .before .before .before .before
+    .before .before .before .before .before .if1 .left)
+    (c .before .before .before .before .before .before .before .before .before .before .before .before .before .before .if2 .left)
+    (c .before .before .before .before .before .before .before .before .before .before .before .if3 .left)
+    (c .before .before .before .before .before .before .before .before .before .before .if4 .left)
+    (c .before .before .before .before .before .before .before .before .before .if6 .left)
+    (c .before .before .before .before .before .before .before .before .if8 .left)
+    (c .before .before .before .before .before .before .before .if9 .left) (c .before .before .before .before .before .before .if10 .left)
     (c .before .before .before .before .if11 .left))
 
 pub step-spec : {M : Type 1} → statement M
