@@ -8,7 +8,7 @@ use lib.ListN.{take}
 use Rattle.basics.specs.Try.{Try, ok, refuse}
 use Rattle.eviction.specs.declared.Entry.{Entry}
 use Rattle.state.specs.declared.State.{State}
-use Rattle.sheet_steps.specs.declared.Standing.{Standing}
+use Rattle.sheet_standing.specs.declared.Standing.{Standing}
 use Rattle.sheet_steps.specs.Standing.{start}
 use Rattle.sheet.specs.Run.{runAll}
 

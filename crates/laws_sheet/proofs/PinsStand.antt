@@ -17,7 +17,7 @@ use Rattle.state.specs.Slots.{slotAt, vacantSlot, isClean}
 use Rattle.maintenance_resize.specs.Pins.{pinsClean}
 use Rattle.laws_table.specs.Table.{Valid, Step}
 use Rattle.laws_maintenance.proofs.Lists.{all-same}
-use Rattle.sheet_steps.specs.declared.Standing.{Standing}
+use Rattle.sheet_standing.specs.declared.Standing.{Standing}
 use Rattle.sheet_steps.specs.Standing.{noPins, lentPins, lentList}
 use Rattle.sheet_steps.specs.Steps.{movePins}
 use Rattle.laws_sheet.specs.Orderly.{InOrder}

@@ -20,8 +20,8 @@ use Rattle.state.specs.Remove.{needClean, remove}
 use Rattle.maintenance_resize.specs.Answers.{Size, unchanged, busyNow, resized}
 use Rattle.sheet_lines.specs.declared.Record.{Record}
 use Rattle.sheet_lines.specs.declared.Said.{Said}
-use Rattle.sheet_steps.specs.declared.Place.{Place}
-use Rattle.sheet_steps.specs.declared.Standing.{Standing}
+use Rattle.sheet_standing.specs.declared.Place.{Place}
+use Rattle.sheet_standing.specs.declared.Standing.{Standing}
 use Rattle.sheet_steps.specs.declared.Stepped.{Stepped}
 use Rattle.sheet_steps.specs.Standing.{withState, placeAt}
 use Rattle.sheet_steps.specs.Steps.{sayNew, stepNew, sayAccess, accessOf, stepAccess, sayDone, sayToken, stepPublish, stepAbort, sayFound, stepLookup}

@@ -17,7 +17,7 @@ use Rattle.state.specs.Fresh.{empty, noTable}
 use Rattle.sheet_lines.specs.declared.Said.{Said}
 use Rattle.sheet_lines.specs.Record.{byteAt}
 use Rattle.sheet_lines.specs.Words.{isBad}
-use Rattle.sheet_steps.specs.declared.Standing.{Standing}
+use Rattle.sheet_standing.specs.declared.Standing.{Standing}
 use Rattle.sheet_steps.specs.Standing.{start, cleanOf, loadingOf}
 use Rattle.sheet_steps.specs.Steps.{step}
 use Rattle.sheet.specs.Run.{lineAfter, runFrom, runSheet}

@@ -27,7 +27,7 @@ use Rattle.sheet_lines.specs.declared.Record.{Record}
 use Rattle.sheet_lines.specs.declared.Read.{Read}
 use Rattle.sheet_lines.specs.declared.Said.{Said}
 use Rattle.sheet_lines.specs.Record.{byteAt, inRange, fieldsOf, readRecord}
-use Rattle.sheet_steps.specs.declared.Standing.{Standing}
+use Rattle.sheet_standing.specs.declared.Standing.{Standing}
 use Rattle.sheet_steps.specs.Standing.{start, afresh, withState, placeAt, lentPins, lentList, says}
 use Rattle.sheet_steps.specs.Steps.{sayNew, stepNew, sayAccess, accessOf, stepAccess, sayDone, sayToken, stepPublish, stepAbort, sayFound, stepLookup, sayRemoved, stepRemove, sayPinned, stepPin, saySize, resizeOf, stepResize, sayCount, reclaimOf, stepReclaim, stepCode, step}
 use Rattle.sheet_steps.proofs.Cases.{step-bad, step-new, step-before, step-code}

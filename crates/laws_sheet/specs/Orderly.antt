@@ -8,7 +8,7 @@ use Rattle.eviction.specs.Victim.{unpinned}
 use Rattle.state.specs.declared.State.{State}
 use Rattle.state.specs.Slots.{slotAt, isClean}
 use Rattle.laws_table.specs.Table.{Valid}
-use Rattle.sheet_steps.specs.declared.Standing.{Standing}
+use Rattle.sheet_standing.specs.declared.Standing.{Standing}
 use Rattle.sheet_steps.specs.Standing.{start}
 
 -- a valid table, so one of 1 to 256 slots; and its pins, a byte for each slot of the largest table, 0 or 1, and 1 only on a clean slot

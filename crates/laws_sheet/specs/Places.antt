@@ -13,8 +13,8 @@ use Rattle.state.specs.Answers.{Given, hit, inProgress, reserved, evicted, busy
 use Rattle.sheet_lines.specs.declared.Record.{Record}
 use Rattle.sheet_lines.specs.declared.Read.{Read}
 use Rattle.sheet_lines.specs.declared.Said.{Said}
-use Rattle.sheet_steps.specs.declared.Place.{Place}
-use Rattle.sheet_steps.specs.declared.Standing.{Standing}
+use Rattle.sheet_standing.specs.declared.Place.{Place}
+use Rattle.sheet_standing.specs.declared.Standing.{Standing}
 use Rattle.sheet_steps.specs.declared.Stepped.{Stepped}
 use Rattle.sheet_steps.specs.Standing.{holding, placeAt, says}
 use Rattle.sheet_steps.specs.Steps.{accessOf, stepRecord}

@@ -16,7 +16,7 @@ fn main() {
     }
     let mut bytes: [u8; BLOCK] = [0; BLOCK];
     let mut out: [u8; ROOM] = [0; ROOM];
-    let mut standing = sheet_steps::start();
+    let mut standing = sheet_standing::start();
     let mut number: u64 = 0;
     let mut blocks: u64 = basics::MAX;
     while 0 < blocks {

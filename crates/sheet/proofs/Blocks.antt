@@ -14,7 +14,7 @@ use Rattle.basics.specs.Numbers.{MAX}
 use Rattle.basics.proofs.Tests.{is, yes!, no! }
 use Rattle.sheet_lines.specs.Words.{isBad}
 use Rattle.sheet_lines.specs.Record.{byteAt, low, inRange, fieldsOf, readRecord}
-use Rattle.sheet_steps.specs.declared.Standing.{Standing}
+use Rattle.sheet_standing.specs.declared.Standing.{Standing}
 use Rattle.sheet_steps.specs.Steps.{stepRecord, step}
 use Rattle.sheet_steps.specs.Standing.{start}
 use Rattle.sheet.specs.Run.{Printed, inFront, lineAfter, orEnd, runFrom, runAll, runSheet, turns, BLOCK, ROOM, inBlocks}

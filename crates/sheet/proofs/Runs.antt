@@ -12,7 +12,7 @@ use borrow.Author.Tests.{eq-eqb, ne-eqb, leb-true}
 use Rattle.basics.proofs.Tests.{is, yes!, no!, false-true}
 use Rattle.sheet_lines.specs.Words.{isBad}
 use Rattle.sheet_lines.specs.Record.{inRange, readRecord}
-use Rattle.sheet_steps.specs.declared.Standing.{Standing}
+use Rattle.sheet_standing.specs.declared.Standing.{Standing}
 use Rattle.sheet_steps.specs.declared.Stepped.{Stepped}
 use Rattle.sheet_steps.specs.Steps.{stepRecord, step}
 use Rattle.sheet.specs.Run.{printed, inFront, lineAfter, orEnd, runFrom}

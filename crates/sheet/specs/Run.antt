@@ -6,7 +6,7 @@ use lib.Dec.{eqb, ltb}
 use lib.ListN.{length, drop, take}
 use Rattle.basics.specs.Try.{if_then_else_}
 use Rattle.basics.specs.Numbers.{MAX}
-use Rattle.sheet_steps.specs.declared.Standing.{Standing}
+use Rattle.sheet_standing.specs.declared.Standing.{Standing}
 use Rattle.sheet_steps.specs.declared.Stepped.{Stepped}
 use Rattle.sheet.specs.declared.Ran.{Ran}
 use Rattle.sheet_lines.specs.Words.{isBad, lineOf}

@@ -8,7 +8,7 @@ ghost use Rattle.sheet_lines.specs.Words.{lineOf, textOf};
 ghost use Rattle.sheet.specs.Run.{runFrom, turns as turnsRule, ranAfter};
 use sheet_lines::Line;
 use sheet_lines::Said;
-use sheet_steps::Standing;
+use sheet_standing::Standing;
 use sheet_steps::Stepped;
 
 // What stands after a block of records, the number of the next record, how many bytes were printed, and whether `bad` ended it.

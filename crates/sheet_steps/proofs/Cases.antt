@@ -37,8 +37,8 @@ use Rattle.sheet_lines.specs.declared.Record.{Record}
 use Rattle.sheet_lines.specs.declared.Said.{Said}
 use Rattle.sheet_lines.specs.Record.{readRecord, placeOf}
 use Rattle.sheet_steps.specs.Steps.{sayNew, stepNew, sayAccess, accessOf, stepAccess, sayDone, sayToken, stepPublish, stepAbort, sayFound, stepLookup, sayRemoved, stepRemove, cleanAnswer, sayPinned, stepPin, movePins, saySize, resizeOf, stepResize, sayCount, reclaimOf, stepReclaim, stepCode, stepRecord, step}
-use Rattle.sheet_steps.specs.declared.Place.{Place}
-use Rattle.sheet_steps.specs.declared.Standing.{Standing}
+use Rattle.sheet_standing.specs.declared.Place.{Place}
+use Rattle.sheet_standing.specs.declared.Standing.{Standing}
 use Rattle.sheet_steps.specs.Standing.{afresh, withState, withPins, withToken, placeAt, lentPins, lentList, says}
 
 -- a part of a list that is as long as asked, or whole

@@ -24,7 +24,7 @@ use Rattle.maintenance_resize.specs.Answers.{Size, unchanged, busyNow, resized,
 use Rattle.maintenance_resize.specs.Resize.{resize}
 use Rattle.sheet_lines.specs.declared.Record.{Record}
 use Rattle.sheet_lines.specs.declared.Read.{Read}
-use Rattle.sheet_steps.specs.declared.Standing.{Standing}
+use Rattle.sheet_standing.specs.declared.Standing.{Standing}
 use Rattle.sheet_lines.specs.declared.Said.{Said}
 use Rattle.sheet_steps.specs.declared.Stepped.{Stepped}
 use Rattle.sheet_lines.specs.Record.{readRecord}

@@ -1,4 +1,4 @@
-// The run sheets of document 01: what stands between two records, and the step that a record makes.
+// The run sheets of document 01: the step that a record makes.
 ghost use mathlib.Core.Path.{_≡_};
 ghost use mathlib.Core.Bool.{Bool};
 ghost use mathlib.Core.List.{List};
@@ -9,80 +9,21 @@ ghost use Rattle.basics.specs.Answers.{doneAnswer};
 ghost use Rattle.state.specs.Answers.{accessAnswer, foundAnswer};
 ghost use Rattle.state.specs.Remove.{needClean};
 ghost use Rattle.maintenance_resize.specs.Answers.{sizeAnswer};
-ghost use Rattle.sheet_steps.specs.Standing.{emptyPlace, noPins, says, start as startRule, afresh as afreshRule};
+ghost use Rattle.sheet_steps.specs.Standing.{noPins, says};
 ghost use Rattle.sheet_steps.specs.Steps.{cleanAnswer, sayAccess, sayDone, sayFound, sayRemoved, movePins, saySize, sayCount, step as stepRule};
 use basics::Done;
-use key::CacheKey;
 use maintenance_resize::Maintenance;
 use sheet_lines::Read;
 use sheet_lines::Said;
+use sheet_standing::Place;
+use sheet_standing::Standing;
 use state::Access;
 use state::Found;
-use state::LoadToken;
 use state::State;
-
-// A token place.
-pub struct Place {
-    pub token: LoadToken,
-    pub full: bool,
-}
-
-// What stands between two records: the table, the token places, a pin byte for each slot, and whether there was a table made.
-pub struct Standing {
-    pub state: State,
-    pub places: [Place; 16],
-    pub pins: [u8; 256],
-    pub stands: bool,
-}
 
 pub struct Stepped {
     pub standing: Standing,
     pub said: Said,
-}
-
-// A token place with nothing in it.
-fn empty_place() -> Place
-    ensures { λ r. ⌜ r ≡ emptyPlace ⌝ }
-{
-    let none = CacheKey {
-        file: 0,
-        kind: 0,
-        index: 0,
-    };
-    let token = LoadToken {
-        slot: 0,
-        generation: 0,
-        key: none,
-        access_sequence: 0,
-    };
-    Place {
-        token: token,
-        full: false,
-    }
-}
-
-// A new table, with no token and no pin.
-fn afresh(t: State) -> Standing
-    ensures { λ r. ⌜ r ≡ afreshRule t ⌝ }
-{
-    let empty = empty_place();
-    Standing {
-        state: t,
-        places: [empty; 16],
-        pins: [0; 256],
-        stands: true,
-    }
-}
-
-// Before the first record.
-pub fn start() -> Standing
-    ensures { λ r. ⌜ r ≡ startRule ⌝ }
-{
-    let refused = State::try_new(0);
-    let none = refused.state;
-    let mut s = afresh(none);
-    s.stands = false;
-    s
 }
 
 // How many pin bytes are lent: one for each slot of a table.
@@ -310,7 +251,7 @@ pub fn step(s: Standing, bytes: &[u8]) -> Stepped
         }
         let t = made.state;
         return Stepped {
-            standing: afresh(t),
+            standing: sheet_standing::afresh(t),
             said: Said::Made(number),
         };
     }

@@ -9,7 +9,7 @@ use Rattle.basics.proofs.Fills.{filled, fill-end}
 use Rattle.sheet_lines.specs.declared.Said.{Said}
 use Rattle.sheet_lines.specs.Text.{NEWLINE}
 use Rattle.sheet_lines.specs.Words.{isBad, lineOf}
-use Rattle.sheet_steps.specs.declared.Standing.{Standing}
+use Rattle.sheet_standing.specs.declared.Standing.{Standing}
 use Rattle.picture_numbers.specs.Numbers.{spaced}
 use Rattle.trace.specs.Record.{front, standingNumbers, recordText}
 

@@ -6,7 +6,7 @@ use Rattle.basics.specs.Try.{if_then_else_}
 use Rattle.sheet_lines.specs.declared.Said.{Said}
 use Rattle.sheet_lines.specs.Text.{NEWLINE}
 use Rattle.sheet_lines.specs.Words.{isBad, lineOf}
-use Rattle.sheet_steps.specs.declared.Standing.{Standing}
+use Rattle.sheet_standing.specs.declared.Standing.{Standing}
 use Rattle.picture_numbers.specs.Numbers.{wordNumbers, spaced, past}
 use Rattle.picture.specs.Table.{tableNumbers, pastNumbers}
 

@@ -8,7 +8,7 @@ ghost use Rattle.trace.specs.Record.{front, standingNumbers, recordText}
 ghost use Rattle.picture_numbers.specs.Numbers.{spaced};
 use sheet_lines::Line;
 use sheet_lines::Said;
-use sheet_steps::Standing;
+use sheet_standing::Standing;
 
 // What stands after a block of records, and whether there is an end: a bad record, or a write that failed.
 struct Ran {
@@ -130,7 +130,7 @@ fn run(standing: Standing, first: u64, bytes: &[u8], out: &mut [u8]) -> Ran
 
 // The records of all blocks, each of as many bytes as there is room for.
 fn run_all(bytes: &mut [u8], out: &mut [u8]) {
-    let mut standing = sheet_steps::start();
+    let mut standing = sheet_standing::start();
     let mut number: u64 = 0;
     let mut blocks: u64 = basics::MAX;
     while 0 < blocks {

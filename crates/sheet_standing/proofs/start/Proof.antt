@@ -1,11 +1,11 @@
--- `sheet_steps::start` meets its contract: a refused table is the one with nothing in it. Assumes nothing.
+-- `sheet_standing::start` meets its contract: a refused table is the one with nothing in it. Assumes nothing.
 use mathlib.Core.Path.{ap}
 use Rattle.basics.specs.Capacity.{needCapacity}
 use Rattle.state.specs.Fresh.{new}
-use Rattle.sheet_steps.specs.Standing.{start, afresh}
+use Rattle.sheet_standing.specs.Standing.{start, afresh}
 use borrow.Author.Needs.{needs}
-use Rattle.sheet_steps.proofs.start.Statement.{statement}
-use Rattle.sheet_steps.proofs.start.Tie as tie
+use Rattle.sheet_standing.proofs.start.Statement.{statement}
+use Rattle.sheet_standing.proofs.start.Tie as tie
 
 returns : tie.Need-returns
 unfolding new needCapacity start afresh
