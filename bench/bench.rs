@@ -1,3 +1,4 @@
+// SPDX-License-Identifier: Apache-2.0
 //! Times run sheets through the original Rust in place and through our calls, and a plain copy of a table. bench/run builds and runs it; with
 //! `--cfg counting` it counts the bytes that memcpy and memmove move instead, and times nothing.
 

@@ -1,3 +1,4 @@
+// SPDX-License-Identifier: Apache-2.0
 //! Counts the bytes that memcpy and memmove move in a program that is run with it in LD_PRELOAD, and the copies of a whole table among them. It
 //! prints both on standard error when the program ends. bench/run builds it for `runsheet`.
 

@@ -1,3 +1,4 @@
+// SPDX-License-Identifier: Apache-2.0
 //! A run sheet through the original's calls, in place on one table. bench/run puts this file below the original's `cache::raw`, where
 //! the calls can be named. `run` makes of the answers the same checksum as crates/bench; `lines` prints what `runsheet` prints.
 

@@ -1,3 +1,4 @@
+// SPDX-License-Identifier: Apache-2.0
 //! Runs a sheet from standard input through the original in place, and prints the lines of `runsheet`. bench/run times it beside `runsheet`.
 
 use original::in_place::Lines;

@@ -1,3 +1,4 @@
+// SPDX-License-Identifier: Apache-2.0
 //! Document 01's calls on the original table. Where document 01 has a rule that the original has not, the rule stands in
 //! front of the original's call, under a comment that begins with DIFFERENCE, and is counted each time it decides.
 

@@ -1,3 +1,4 @@
+// SPDX-License-Identifier: Apache-2.0
 //! Made-up tables: one case is a table, however damaged, and one call (README.md, "Made-up tables").
 
 use crate::calls::{self, Differences, STOP, padded};

@@ -1,3 +1,4 @@
+// SPDX-License-Identifier: Apache-2.0
 //! Stands in for the kernel's crate `hyper`: what the original files use of it, and no more. One thread only.
 
 pub mod debug {

@@ -1,3 +1,4 @@
+// SPDX-License-Identifier: Apache-2.0
 //! The original page cache table, built unchanged, and what runs it: document 01's calls, run sheets and made-up tables.
 //! `cache` is the original module; oracle/build puts its files beside our stand-ins.
 

@@ -1,3 +1,4 @@
+// SPDX-License-Identifier: Apache-2.0
 //! Made-up tables chosen by aim: each shows a rule that a program could have otherwise and still agree with most others. Beside each case stands
 //! what document 01 says of it: the word and its number.
 

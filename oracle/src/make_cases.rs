@@ -1,3 +1,4 @@
+// SPDX-License-Identifier: Apache-2.0
 //! Made-up tables by seed: the table of a sheet at some record, damaged in a few places, and one call.
 
 use crate::case::{CALLS, CLEAN_ENTRY, COLD_CANDIDATE, Case, DETACH, VALIDATE};

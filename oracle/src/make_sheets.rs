@@ -1,3 +1,4 @@
+// SPDX-License-Identifier: Apache-2.0
 //! Sheets by seed. The maker runs what it writes, so that it can choose by the heap, the pins and the tokens.
 
 use crate::CacheKey;

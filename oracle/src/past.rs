@@ -1,3 +1,4 @@
+// SPDX-License-Identifier: Apache-2.0
 //! The places past the lengths: part 11 of the trace (README.md). The original has none, so document 01's words decide: "In a fresh table slots
 //! past the capacity are vacant, and other places past a length are 0. A place given up at the end of stack or heap becomes 0; others past the end
 //! stay."

@@ -1,3 +1,4 @@
+// SPDX-License-Identifier: Apache-2.0
 //! A table in plain numbers, and its text: the trace's form (README.md, "The trace").
 
 use crate::CacheKey;

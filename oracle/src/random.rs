@@ -1,3 +1,4 @@
+// SPDX-License-Identifier: Apache-2.0
 //! Numbers by seed (splitmix64), so that a seed gives the same sheet everywhere.
 
 pub struct Random(u64);

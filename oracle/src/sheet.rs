@@ -1,3 +1,4 @@
+// SPDX-License-Identifier: Apache-2.0
 //! Run sheets: document 01, "Run sheets".
 
 use crate::calls::{self, Differences, STALE};

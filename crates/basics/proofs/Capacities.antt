@@ -1,3 +1,4 @@
+-- SPDX-License-Identifier: Apache-2.0
 -- What it means that a capacity is one that a table may have. Assumes nothing.
 use Prim.Native.Nat.{ℕ, _^_, _<_, _≤_}
 use mathlib.Core.Path.{_≡_}

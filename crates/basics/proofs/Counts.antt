@@ -1,3 +1,4 @@
+-- SPDX-License-Identifier: Apache-2.0
 -- How a store changes how many of a list pass a test. Assumes nothing.
 use Prim.Native.Nat.{ℕ, zero, suc, _+_, _<_}
 use native.Mathlib.Omega.{arith}

@@ -1,3 +1,4 @@
+-- SPDX-License-Identifier: Apache-2.0
 -- A loop that fills an array of zeros from the front with the elements of a list, one store a turn. Assumes nothing.
 use Prim.Native.Nat.{ℕ, suc, _+_, _-_, _<_, _≤_}
 use native.Mathlib.Omega.{arith}

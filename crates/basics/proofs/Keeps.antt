@@ -1,3 +1,4 @@
+-- SPDX-License-Identifier: Apache-2.0
 -- `keep` and `first` of a list, and how many of a list, or of the slots below a number, pass a test. Assumes nothing.
 use Prim.Native.Nat.{ℕ, zero, suc, _+_, _<_, _≤_}
 use native.Mathlib.Omega.{arith}

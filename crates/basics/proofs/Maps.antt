@@ -1,3 +1,4 @@
+-- SPDX-License-Identifier: Apache-2.0
 -- Maps from a slot: one place anew. Assumes nothing.
 use Prim.Native.Nat.{ℕ}
 use mathlib.Core.Path.{_≡_, refl, sym, fun-ext}

@@ -1,3 +1,4 @@
+-- SPDX-License-Identifier: Apache-2.0
 -- A rule of a table of numbers, proved at all of its entries by one test that antt computes, one entry after the other.
 -- Assumes nothing.
 use mathlib.Core.Path.{_∙_, subst, sym}

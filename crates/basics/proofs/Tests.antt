@@ -1,3 +1,4 @@
+-- SPDX-License-Identifier: Apache-2.0
 -- Tests: a Bool with what it is known to be, the fact behind a test, and what a rule that answered `ok` went through.
 -- Assumes nothing.
 use Prim.Native.Nat.{ℕ, zero, suc, _-_}

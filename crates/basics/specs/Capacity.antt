@@ -1,3 +1,4 @@
+-- SPDX-License-Identifier: Apache-2.0
 -- "From the input": the capacities that a table may have.
 use Prim.Native.Nat.{ℕ, _^_}
 use mathlib.Core.Bool.{_&&_}

@@ -1,3 +1,4 @@
+-- SPDX-License-Identifier: Apache-2.0
 -- What a list holds, and that it holds nothing twice.
 use Prim.Native.Nat.{ℕ}
 use mathlib.Core.Path.{_≡_}

@@ -1,3 +1,4 @@
+// SPDX-License-Identifier: Apache-2.0
 // What every crate is written with: the number for no slot, the numbers of the refusals, the answer of a step that hands back no
 // value, and the capacities that a table may have.
 ghost use mathlib.Core.Path.{_≡_};

@@ -1,3 +1,4 @@
+-- SPDX-License-Identifier: Apache-2.0
 -- A run sheet through the rules of the calls that are timed, and the checksum of all that they answer. Loads are always allowed, no slot is
 -- pinned, and no record is refused as bad.
 use Prim.Native.Nat.{ℕ, zero, suc, _+_, _/_, _%_, min}

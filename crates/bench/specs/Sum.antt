@@ -1,3 +1,4 @@
+-- SPDX-License-Identifier: Apache-2.0
 -- The checksum, and the number that each answer adds to it.
 use Prim.Native.Nat.{ℕ, _+_, _%_, _^_}
 use mathlib.Core.Option.{Option, none, some}

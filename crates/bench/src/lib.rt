@@ -1,3 +1,4 @@
+// SPDX-License-Identifier: Apache-2.0
 // What bench/ times of the port: a run sheet through the calls, one after the other on one table in a local. Only the calls that are timed
 // are taken, and no line is written. The local is an answer of access, so that access, the most frequent call, hands its table back to where it
 // stays: that is one copy of the table less than a local of the type State costs.

@@ -1,3 +1,4 @@
+-- SPDX-License-Identifier: Apache-2.0
 -- What the enums of the heap say, and what the code hands back for each result of a rule. A refusal leaves the heap as it was.
 use Prim.Native.Nat.{ℕ}
 use mathlib.Core.Option.{Option, none, some}

@@ -1,3 +1,4 @@
+-- SPDX-License-Identifier: Apache-2.0
 -- "A binary heap of (last use, slot) with the place of each slot."
 use Prim.Native.Nat.{ℕ, _-_}
 use mathlib.Core.Bool.{Bool, true, false, _&&_}

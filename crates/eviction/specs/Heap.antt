@@ -1,3 +1,4 @@
+-- SPDX-License-Identifier: Apache-2.0
 -- `insert`, `touch` and `remove` of the heap. `c` is the capacity.
 use Prim.Native.Nat.{ℕ, _+_, _-_}
 use mathlib.Core.Bool.{_&&_}

@@ -1,3 +1,4 @@
+-- SPDX-License-Identifier: Apache-2.0
 -- The heap's places, read: `oldest`, `candidate`, and "the first unpinned slot among the first min(clean, 64) heap places". `c` is the capacity.
 use Prim.Native.Nat.{ℕ, zero, suc, _+_}
 use mathlib.Core.Bool.{Bool}

@@ -1,5 +1,6 @@
 // SPDX-FileCopyrightText: 2026 roolrz
 // SPDX-License-Identifier: Apache-2.0
+// Ported from src/fs/cache/state/eviction.rs of HypeR-Proj/kernel at 53afd06a1d, changed; see NOTICE.
 
 // state/eviction.rs: a heap of the clean slots, ordered by their last use, with the place of each slot: a new one, its reads and the victim
 // search. Each function works on any value: where the Rust would stop, the answer is the refusal 10.

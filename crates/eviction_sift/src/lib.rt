@@ -1,5 +1,6 @@
 // SPDX-FileCopyrightText: 2026 roolrz
 // SPDX-License-Identifier: Apache-2.0
+// Ported from src/fs/cache/state/eviction.rs of HypeR-Proj/kernel at 53afd06a1d, changed; see NOTICE.
 
 // state/eviction.rs, the changes of the heap: insert, touch and remove. Each function works on any value: where the Rust would stop, the answer
 // is the refusal 10 and the heap is as it came.

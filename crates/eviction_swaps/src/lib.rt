@@ -1,5 +1,6 @@
 // SPDX-FileCopyrightText: 2026 roolrz
 // SPDX-License-Identifier: Apache-2.0
+// Ported from src/fs/cache/state/eviction.rs of HypeR-Proj/kernel at 53afd06a1d, changed; see NOTICE.
 
 // state/eviction.rs, the sifts: an entry of the heap moved up or down by swaps. They are parts of the heap's calls (crate eviction_sift), which meet
 // what the sifts require.

@@ -1,3 +1,4 @@
+-- SPDX-License-Identifier: Apache-2.0
 -- `Index::try_new`: "The free stack of a fresh table gives 0, 1, 2 and so on"; "other places past a length are 0".
 use Prim.Native.Nat.{ℕ, _-_}
 use mathlib.Core.List.{_++_}

@@ -1,5 +1,6 @@
 // SPDX-FileCopyrightText: 2026 roolrz
 // SPDX-License-Identifier: Apache-2.0
+// Ported from src/fs/cache/index.rs of HypeR-Proj/kernel at 53afd06a1d, changed; see NOTICE.
 
 // index.rs: the chains of slots and the stack of vacant slots: a new index, the stack, and what reads a chain. Each function works on any value:
 // where the Rust would stop, the answer is the refusal 10 and the index is as it came.

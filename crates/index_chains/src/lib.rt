@@ -1,5 +1,6 @@
 // SPDX-FileCopyrightText: 2026 roolrz
 // SPDX-License-Identifier: Apache-2.0
+// Ported from src/fs/cache/index.rs of HypeR-Proj/kernel at 53afd06a1d, changed; see NOTICE.
 
 // index.rs, the chains: whether one takes a slot, a slot put in or taken out, and one given up. Each function works on any value: where the Rust
 // would stop, the answer is the refusal 10 and the index is as it came.

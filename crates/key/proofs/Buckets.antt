@@ -1,3 +1,4 @@
+-- SPDX-License-Identifier: Apache-2.0
 -- A key's bucket is one of the buckets. Assumes nothing.
 use Prim.Native.Nat.{ℕ, _<_}
 use native.Mathlib.Nat.{mod-lt}

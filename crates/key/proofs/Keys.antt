@@ -1,3 +1,4 @@
+-- SPDX-License-Identifier: Apache-2.0
 -- The test on keys is equality. Assumes nothing.
 use mathlib.Core.Path.{_≡_, refl}
 use mathlib.Core.Bool.{true, _&&_}

@@ -1,3 +1,4 @@
+-- SPDX-License-Identifier: Apache-2.0
 -- What the enum `Count` says: "a definition gives this paper's number and values for each case of the enum".
 use Prim.Native.Nat.{ℕ}
 use Rattle.basics.specs.Try.{Try, ok, refuse}

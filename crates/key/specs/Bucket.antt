@@ -1,3 +1,4 @@
+-- SPDX-License-Identifier: Apache-2.0
 -- The bucket rule and the bucket count.
 use Prim.Native.Nat.{ℕ, _+_, _*_, _%_, _^_}
 use Rattle.basics.specs.Try.{Try, ok, _>>=_, _>>_}

@@ -1,5 +1,6 @@
 // SPDX-FileCopyrightText: 2026 roolrz
 // SPDX-License-Identifier: Apache-2.0
+// Ported from src/fs/cache/key.rs of HypeR-Proj/kernel at 53afd06a1d, changed; see NOTICE.
 
 // Document 01's key and its bucket, in place of the Rust's key.rs; and the bucket counts, which the Rust works out in index.rs.
 ghost use mathlib.Core.Path.{_≡_};

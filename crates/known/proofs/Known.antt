@@ -1,3 +1,4 @@
+-- SPDX-License-Identifier: Apache-2.0
 -- K1 to K12, computed by the rules in one theorem. Assumes nothing.
 use mathlib.Core.Path.{_≡_, refl}
 use mathlib.Core.Bool.{true}

@@ -1,3 +1,4 @@
+-- SPDX-License-Identifier: Apache-2.0
 -- Run sheets in bytes, and what is compared: what a sheet prints, and the table that it leaves.
 use Prim.Native.Nat.{ℕ, zero, suc, _+_, _*_, _/_, _%_}
 use mathlib.Core.Bool.{Bool, true, false, _&&_}

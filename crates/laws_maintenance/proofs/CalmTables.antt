@@ -1,3 +1,4 @@
+-- SPDX-License-Identifier: Apache-2.0
 -- Tables without a loading slot: an occupied slot is clean, `peek_clean` says whether the table has a key, and a fresh table has none.
 -- Assumes nothing.
 use Prim.Native.Nat.{ℕ, _<_, _≤_}

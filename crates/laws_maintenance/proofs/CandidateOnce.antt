@@ -1,3 +1,4 @@
+-- SPDX-License-Identifier: Apache-2.0
 -- `candidate` tries one capacity only, of any table, made up or not: a chain of 64 refuses one of at least 65 pinned keys, for which the capacity
 -- was raised to 128 or more, and half of 256 is no more. So its doubling is not met. Assumes nothing.
 use Prim.Native.Nat.{ℕ, suc, _+_, _/_, _<_, _≤_, max}

@@ -1,3 +1,4 @@
+-- SPDX-License-Identifier: Apache-2.0
 -- `candidate` of a table without a loading slot does not stop: it makes a table of the capacity with each pinned key once and no other, or none
 -- where a chain refuses a pinned key; and that takes a smaller capacity. Assumes nothing.
 use Prim.Native.Nat.{ℕ, suc, _+_, _<_, _≤_}

@@ -1,3 +1,4 @@
+-- SPDX-License-Identifier: Apache-2.0
 -- Which chains have room: a greater table has room for every key of the old one; a chain has no more slots than are clean; and a full chain
 -- stays full. Assumes nothing.
 use Prim.Native.Nat.{ℕ, _+_, _*_, _%_, _^_, _<_, _≤_}

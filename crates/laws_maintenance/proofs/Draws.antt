@@ -1,3 +1,4 @@
+-- SPDX-License-Identifier: Apache-2.0
 -- A key of the old table is restored into a table that is drawn from it: that stays so, and no other key comes or goes. Assumes nothing.
 use Prim.Native.Nat.{ℕ, _+_, _<_, _≤_}
 use native.Mathlib.Omega.{arith}

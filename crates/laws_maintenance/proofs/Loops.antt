@@ -1,3 +1,4 @@
+-- SPDX-License-Identifier: Apache-2.0
 -- A step made for each slot in turn that keeps what it is to keep, and does not refuse, is not refused as a whole. Assumes nothing.
 use Prim.Native.Nat.{ℕ, zero, suc, _+_, _<_}
 use native.Mathlib.Omega.{arith}

@@ -1,3 +1,4 @@
+-- SPDX-License-Identifier: Apache-2.0
 -- "oldest unpinned keys are removed until the rest fits" does not stop: what is left fits; a key goes only where the old table had more keys than
 -- the new one has slots, and where no unpinned key that is left was used before it. Assumes nothing.
 use Prim.Native.Nat.{ℕ, zero, suc, _-_, _<_, _≤_}

@@ -1,3 +1,4 @@
+-- SPDX-License-Identifier: Apache-2.0
 -- "those refused by a chain removed", and the list has the new slots of the others: that does not stop, and no slot waits after. Assumes nothing.
 use Prim.Native.Nat.{ℕ, _+_, _<_}
 use native.Mathlib.Omega.{arith}

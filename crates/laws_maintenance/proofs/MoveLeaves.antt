@@ -1,3 +1,4 @@
+-- SPDX-License-Identifier: Apache-2.0
 -- The first `for` of a remaking does not stop: the keys that the new table has leave the old one, and the list has their new slots; what is left
 -- in the old table and what is in the new one are no more than the old table had. Assumes nothing.
 use Prim.Native.Nat.{ℕ, _+_, _-_, _<_, _≤_}

@@ -1,3 +1,4 @@
+-- SPDX-License-Identifier: Apache-2.0
 -- "the rest restored in old slot order" does not stop: each key left is in the new table after, or its chain is full. Assumes nothing.
 use Prim.Native.Nat.{ℕ, _+_, _<_, _≤_}
 use native.Mathlib.Omega.{arith}

@@ -1,3 +1,4 @@
+-- SPDX-License-Identifier: Apache-2.0
 -- Pin bytes: how many are pinned from a slot on, the capacity raised for them, and that pins are on clean slots. Assumes nothing.
 use Prim.Native.Nat.{ℕ, zero, suc, _+_, _<_, _≤_, max}
 use native.Mathlib.Omega.{arith}

@@ -1,3 +1,4 @@
+-- SPDX-License-Identifier: Apache-2.0
 -- The walk that restores the pinned keys: what each of its steps keeps holds at its end, or a step was refused; and how many keys it has restored
 -- so far. Assumes nothing.
 use Prim.Native.Nat.{ℕ, zero, suc, _+_, _<_, _≤_}

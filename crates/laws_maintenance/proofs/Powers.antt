@@ -1,3 +1,4 @@
+-- SPDX-License-Identifier: Apache-2.0
 -- The least power of two not below a number of pins: it is at least that number and 1, at most 256, and for 65 at least 128. Assumes nothing.
 use Prim.Native.Nat.{ℕ, _<_, _≤_}
 use native.Mathlib.Omega.{arith}

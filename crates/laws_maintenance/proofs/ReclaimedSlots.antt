@@ -1,3 +1,4 @@
+-- SPDX-License-Identifier: Apache-2.0
 -- What removals leave, slot by slot; and that the table is valid after. Assumes nothing.
 use Prim.Native.Nat.{ℕ, _-_, _<_}
 use native.Mathlib.Omega.{arith}

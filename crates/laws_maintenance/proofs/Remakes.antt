@@ -1,3 +1,4 @@
+-- SPDX-License-Identifier: Apache-2.0
 -- A remaking does not stop, and what it leaves. Assumes nothing.
 use Prim.Native.Nat.{ℕ, _<_}
 use native.Mathlib.Omega.{arith}

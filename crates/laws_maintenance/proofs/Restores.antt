@@ -1,3 +1,4 @@
+-- SPDX-License-Identifier: Apache-2.0
 -- `restore_clean` does not stop: a slot that was vacant is clean with the key after, and no other changes; or nothing is done, for a chain of
 -- 64 slots or no vacant slot. Assumes nothing.
 use Prim.Native.Nat.{ℕ, _+_, _-_, _<_, _≤_}

@@ -1,3 +1,4 @@
+-- SPDX-License-Identifier: Apache-2.0
 -- A clean slot that leaves: it is vacant, the others stay; and what is left of a table. Assumes nothing.
 use Prim.Native.Nat.{ℕ}
 use native.Mathlib.Omega.{arith}

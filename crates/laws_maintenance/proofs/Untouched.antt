@@ -1,3 +1,4 @@
+-- SPDX-License-Identifier: Apache-2.0
 -- Unchanged, Busy and refusals of resize leave table and list, whatever the table. Assumes nothing.
 use Prim.Native.Nat.{ℕ}
 use mathlib.Core.Path.{refl}

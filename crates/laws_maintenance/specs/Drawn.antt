@@ -1,3 +1,4 @@
+-- SPDX-License-Identifier: Apache-2.0
 -- A table whose keys all come from another: what resize makes, at each of its steps.
 use Prim.Native.Nat.{ℕ, _<_}
 use mathlib.Core.Path.{_≡_}

@@ -1,3 +1,4 @@
+-- SPDX-License-Identifier: Apache-2.0
 -- What reclaim comes to on a table with the invariant: removals one after the other, and their numbers in that order; 10 is no answer of it.
 use Prim.Native.Nat.{ℕ, _-_, _<_, min}
 use mathlib.Core.Path.{_≡_}

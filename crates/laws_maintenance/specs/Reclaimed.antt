@@ -1,3 +1,4 @@
+-- SPDX-License-Identifier: Apache-2.0
 -- What removals xs from a table t leave, slot by slot: u.
 use Prim.Native.Nat.{ℕ, _+_, _<_}
 use mathlib.Core.Path.{_≡_}

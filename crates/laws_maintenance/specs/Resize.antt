@@ -1,3 +1,4 @@
+-- SPDX-License-Identifier: Apache-2.0
 -- What resize comes to on a table with the invariant: every answer, and what it leaves; 10 is none of them.
 use Prim.Native.Nat.{ℕ, _<_}
 use mathlib.Core.Path.{_≡_}

@@ -1,3 +1,4 @@
+-- SPDX-License-Identifier: Apache-2.0
 -- The pins beside a table: those that are lent, a pin set or moved, and a table with one slot anew. Assumes nothing.
 use Prim.Native.Nat.{ℕ, zero, suc, _+_, _≤_, _<_}
 use native.Mathlib.Omega.{arith}

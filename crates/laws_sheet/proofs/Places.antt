@@ -1,3 +1,4 @@
+-- SPDX-License-Identifier: Apache-2.0
 -- The token places, and what a refused record leaves. Assumes nothing.
 use Prim.Native.Nat.{ℕ, _<_}
 use native.Mathlib.Omega.{arith}

@@ -1,3 +1,4 @@
+-- SPDX-License-Identifier: Apache-2.0
 -- What resize leaves of a table in order and of its pins, and that only a capacity is refused. Assumes nothing.
 use Prim.Native.Nat.{ℕ, _+_, _≤_, _<_, _^_}
 use native.Mathlib.Omega.{arith}

@@ -1,3 +1,4 @@
+-- SPDX-License-Identifier: Apache-2.0
 -- Every record leaves what stands in order, and says only what its code can. Assumes nothing.
 use Prim.Native.Nat.{ℕ, _≤_, _^_}
 use native.Mathlib.Omega.{arith}

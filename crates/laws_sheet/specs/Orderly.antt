@@ -1,3 +1,4 @@
+-- SPDX-License-Identifier: Apache-2.0
 -- What stands between two records of a run sheet.
 use Prim.Native.Nat.{ℕ, _≤_, _<_}
 use mathlib.Core.Path.{_≡_}

@@ -1,3 +1,4 @@
+-- SPDX-License-Identifier: Apache-2.0
 -- The refusals that a record says, by its code: 3, 4 and 10 are none of them, 7 comes only where a number may be spent,
 -- and 8 only where the record names a slot.
 use Prim.Native.Nat.{ℕ, _+_, _≤_}

@@ -1,3 +1,4 @@
+-- SPDX-License-Identifier: Apache-2.0
 -- Every call keeps a table valid, refused or not, and none gives 10; `new` makes a valid table of 1 to 256 slots, and never gives 10.
 -- Assumes nothing.
 use Prim.Native.Nat.{ℕ, _+_, _<_, _≤_, _^_}

@@ -1,3 +1,4 @@
+-- SPDX-License-Identifier: Apache-2.0
 -- `insert` of the index is not refused where the key's chain has room: the slot is the first of that chain, no other chain changes.
 -- Assumes nothing.
 use Prim.Native.Nat.{ℕ, _<_, _≤_}

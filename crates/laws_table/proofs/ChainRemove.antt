@@ -1,3 +1,4 @@
+-- SPDX-License-Identifier: Apache-2.0
 -- `remove` of the index is not refused for a slot of the key's chain: it is taken out of that chain, which keeps its order, and no
 -- other chain changes. Assumes nothing.
 use Prim.Native.Nat.{ℕ, zero, suc, _<_, _≤_}

@@ -1,3 +1,4 @@
+-- SPDX-License-Identifier: Apache-2.0
 -- Walks along a chain: what a walk gives is what it gives of the chain's list; and stores beside a chain. Assumes nothing.
 use Prim.Native.Nat.{ℕ, zero, suc, _<_, _≤_}
 use native.Mathlib.Omega.{arith}

@@ -1,3 +1,4 @@
+-- SPDX-License-Identifier: Apache-2.0
 -- `insert` of the heap is not refused for a slot that it has not, keeps the invariant, and adds that slot only. Assumes nothing.
 use Prim.Native.Nat.{ℕ, _+_, _<_}
 use native.Mathlib.Omega.{arith}

@@ -1,3 +1,4 @@
+-- SPDX-License-Identifier: Apache-2.0
 -- `remove` of the heap is not refused for a held slot, keeps the invariant, and takes out that slot only. Assumes nothing.
 use Prim.Native.Nat.{ℕ, _-_, _<_, _≤_}
 use native.Mathlib.Omega.{arith}

@@ -1,3 +1,4 @@
+-- SPDX-License-Identifier: Apache-2.0
 -- Under the invariant the first test of the heap's rules passes, and a held slot is found at its place. Assumes nothing.
 use Prim.Native.Nat.{ℕ, _<_}
 use mathlib.Core.Path.{_≡_, sym, ap, _∙_}

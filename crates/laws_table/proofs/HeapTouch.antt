@@ -1,3 +1,4 @@
+-- SPDX-License-Identifier: Apache-2.0
 -- `touch` is not refused for a held slot and a greater last use, keeps the invariant, and changes that last use only. Assumes nothing.
 use Prim.Native.Nat.{ℕ, _<_, _≤_}
 use native.Mathlib.Omega.{arith}

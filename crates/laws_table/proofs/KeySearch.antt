@@ -1,3 +1,4 @@
+-- SPDX-License-Identifier: Apache-2.0
 -- The search for a key finds the slot that holds it, or none where none does; and what it does to the table. Assumes nothing.
 use Prim.Native.Nat.{ℕ, zero, suc, _+_, _<_, _≤_}
 use native.Mathlib.Omega.{arith}

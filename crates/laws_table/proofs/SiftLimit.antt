@@ -1,3 +1,4 @@
+-- SPDX-License-Identifier: Apache-2.0
 -- The limit of 256 steps in the rule of the sifts is never met, on any heap: more steps give the same. Assumes nothing.
 use Prim.Native.Nat.{ℕ, zero, suc, _+_, _*_, _<_, _≤_}
 use native.Mathlib.Omega.{arith}

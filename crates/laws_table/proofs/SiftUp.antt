@@ -1,3 +1,4 @@
+-- SPDX-License-Identifier: Apache-2.0
 -- `sift_up` puts a heap in order that is out of order only between one place and the one above it. Assumes nothing.
 use Prim.Native.Nat.{ℕ, zero, suc, _<_, _≤_}
 use native.Mathlib.Omega.{arith}

@@ -1,3 +1,4 @@
+-- SPDX-License-Identifier: Apache-2.0
 -- `release` and `take_vacant` are push and pop of the free stack, `vacant` is its top, and none is refused where it should not be.
 -- Assumes nothing.
 use Prim.Native.Nat.{ℕ, suc, _+_, _-_, _<_, _≤_}

@@ -1,3 +1,4 @@
+-- SPDX-License-Identifier: Apache-2.0
 -- A hit does not stop: it dates the slot by the next use number and changes no other. Assumes nothing.
 use Prim.Native.Nat.{ℕ, _+_, _<_, _≤_}
 use native.Mathlib.Omega.{arith}

@@ -1,3 +1,4 @@
+-- SPDX-License-Identifier: Apache-2.0
 -- Detaching and removing a clean slot do not stop: the slot is vacant after, and no other changes; and what `detach` and `remove` come to.
 -- Assumes nothing.
 use Prim.Native.Nat.{ℕ, _-_, _<_, _≤_}

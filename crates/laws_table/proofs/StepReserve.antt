@@ -1,3 +1,4 @@
+-- SPDX-License-Identifier: Apache-2.0
 -- A reservation in the slot on top of the stack, or in a clean slot, does not stop where the key's chain has room and both numbers are left:
 -- the slot is loading after, and no other changes. Assumes nothing.
 use Prim.Native.Nat.{ℕ, _+_, _-_, _<_}

@@ -1,3 +1,4 @@
+-- SPDX-License-Identifier: Apache-2.0
 -- Under the invariant the first test passes, clean slots are as many as the heap has, and stack, clean and loading slots make up the capacity;
 -- and it holds of slots of which one is anew, with parts that fit it. Assumes nothing.
 use Prim.Native.Nat.{ℕ, _+_, _<_, _≤_}

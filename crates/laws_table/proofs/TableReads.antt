@@ -1,3 +1,4 @@
+-- SPDX-License-Identifier: Apache-2.0
 -- The reads do not give 10: `peek_clean` finds the clean slot of a key, `oldest_clean` a clean slot whose last use is the least. Assumes nothing.
 use Prim.Native.Nat.{ℕ, zero, suc, _<_, _≤_}
 use native.Mathlib.Omega.{arith}

@@ -1,3 +1,4 @@
+-- SPDX-License-Identifier: Apache-2.0
 -- A table stays valid where one slot is anew, if no other slot holds the new key and its last use is no later than the last number.
 -- Assumes nothing.
 use Prim.Native.Nat.{ℕ, _+_, _<_, _≤_}

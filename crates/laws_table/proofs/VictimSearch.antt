@@ -1,3 +1,4 @@
+-- SPDX-License-Identifier: Apache-2.0
 -- The search for a victim finds the first unpinned slot among the places that it looks at, or none where all are pinned. Assumes nothing.
 use Prim.Native.Nat.{ℕ, zero, suc, _+_, _<_, _≤_, min}
 use native.Mathlib.Omega.{arith}

@@ -1,3 +1,4 @@
+-- SPDX-License-Identifier: Apache-2.0
 -- The invariant of the eviction heap, as `EvictionHeap::assert_valid` tests it. `c` is the capacity.
 use Prim.Native.Nat.{ℕ, _+_, _-_, _*_, _/_, _<_, _≤_}
 use mathlib.Core.Path.{_≡_}

@@ -1,3 +1,4 @@
+-- SPDX-License-Identifier: Apache-2.0
 -- The invariant of the free stack, as `Index::assert_valid` tests it, with the stack seen as a list. `c` is the capacity.
 use Prim.Native.Nat.{ℕ, _<_, _≤_}
 use mathlib.Core.Path.{_≡_}

@@ -1,3 +1,4 @@
+-- SPDX-License-Identifier: Apache-2.0
 -- The invariant of the table: what its index, stack, heap and counts have to do with its slots. And what a call does to the slots.
 use Prim.Native.Nat.{ℕ, _<_, _≤_}
 use mathlib.Core.Path.{_≡_}

@@ -1,3 +1,4 @@
+-- SPDX-License-Identifier: Apache-2.0
 -- Each call on a table that agrees with a ledger: its answer is the ledger's, and table and ledger agree after it. Assumes nothing.
 pub mod Tokens
 pub mod Lookup

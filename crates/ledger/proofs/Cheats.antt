@@ -1,3 +1,4 @@
+-- SPDX-License-Identifier: Apache-2.0
 -- The claim fails of every machine of specs/Cheats.antt, each at a list of a few calls, but the last one where the counts are next to their
 -- end. Assumes nothing.
 use Prim.Native.Nat.{ℕ, _+_}

@@ -1,3 +1,4 @@
+-- SPDX-License-Identifier: Apache-2.0
 -- Demand 3, of the rules: every call answers as the ledger allows and keeps table and ledger in agreement, so it holds after every list of
 -- calls. Assumes nothing.
 use native.Mathlib.Omega.{arith}

@@ -1,3 +1,4 @@
+-- SPDX-License-Identifier: Apache-2.0
 -- Every list of calls, with any arguments, leaves a valid table, and no call on it gives 10. Assumes nothing.
 use mathlib.Core.List.{List, [], _∷_}
 use Rattle.state.specs.declared.State.{State}

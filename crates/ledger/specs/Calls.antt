@@ -1,3 +1,4 @@
+-- SPDX-License-Identifier: Apache-2.0
 -- The calls of demand 3 and their answers, and a list of them run on a machine.
 use Prim.Native.Nat.{ℕ}
 use mathlib.Core.Bool.{Bool}

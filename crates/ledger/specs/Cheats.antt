@@ -1,3 +1,4 @@
+-- SPDX-License-Identifier: Apache-2.0
 -- "These cheats are shut out": machines that cheat, each by one call or a few. That the claim fails of them is proved in proofs/Cheats.antt.
 use Prim.Native.Nat.{ℕ}
 use mathlib.Core.Bool.{Bool, false}

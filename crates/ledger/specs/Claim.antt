@@ -1,3 +1,4 @@
+-- SPDX-License-Identifier: Apache-2.0
 -- Demand 3, of any machine.
 use Prim.Native.Nat.{ℕ, zero, suc, _<_, _≤_}
 use mathlib.Core.Path.{_≡_}

@@ -1,3 +1,4 @@
+-- SPDX-License-Identifier: Apache-2.0
 -- One name that opens the rules, the ledger and the claim, for what is computed: `unfolding opened`.
 use Prim.Native.Nat.{ℕ}
 use Rattle.maintenance_reclaim.specs.Reclaim.{reclaimFrom, reclaim}

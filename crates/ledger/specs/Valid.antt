@@ -1,3 +1,4 @@
+-- SPDX-License-Identifier: Apache-2.0
 -- "`assert_valid` becomes the invariant that is proved": of every table that a list of calls leaves, whatever their arguments; and 10 is no
 -- answer on it.
 use Prim.Native.Nat.{ℕ, _<_, _≤_}

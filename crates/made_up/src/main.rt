@@ -1,3 +1,4 @@
+// SPDX-License-Identifier: Apache-2.0
 // Reads made-up tables, each with one call, and writes for each the answer and the table after the call, as `rust_made_up` does of the
 // original: oracle/README.md has both forms. A case that is cut off, or has an unknown code, ends the program, and so does a read or a
 // write that fails.

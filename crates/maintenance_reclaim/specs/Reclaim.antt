@@ -1,3 +1,4 @@
+-- SPDX-License-Identifier: Apache-2.0
 -- "Reclaim (`reclaim_batch`) removes up to min(limit, 64) slots, each chosen as a victim is."
 use Prim.Native.Nat.{ℕ, zero, suc, _+_, min}
 use mathlib.Core.List.{List}

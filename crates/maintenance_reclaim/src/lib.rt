@@ -1,5 +1,6 @@
 // SPDX-FileCopyrightText: 2026 roolrz
 // SPDX-License-Identifier: Apache-2.0
+// Ported from src/fs/cache/maintenance.rs of HypeR-Proj/kernel at 53afd06a1d, changed; see NOTICE.
 
 // maintenance.rs, reclaim (`reclaim_batch`). It works on any table; a refusal hands back the table as it came.
 ghost use mathlib.Core.Path.{_≡_};

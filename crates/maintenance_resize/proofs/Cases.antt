@@ -1,3 +1,4 @@
+-- SPDX-License-Identifier: Apache-2.0
 -- The rules of resize's pins and restoring one step on and at their ends, each as an equation on plain variables, and what the code's answers
 -- tell of a rule. Assumes nothing.
 use Prim.Native.Nat.{ℕ, zero, suc, max, _+_, _-_, _*_, _/_, _≤_, _<_}

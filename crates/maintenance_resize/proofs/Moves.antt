@@ -1,3 +1,4 @@
+-- SPDX-License-Identifier: Apache-2.0
 -- The loops of resize one slot on and at their ends, and what each step does with a slot. Assumes nothing.
 use Prim.Native.Nat.{ℕ, zero, suc, _+_, _-_, _*_, _/_, _≤_, _<_}
 use mathlib.Core.Path.{_≡_, refl, _∙_, ap}

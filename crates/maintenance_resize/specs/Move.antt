@@ -1,4 +1,6 @@
--- "Then oldest unpinned keys are removed until the rest fits, the rest restored in old slot order, those refused by a chain removed, and counts and counters carried over."
+-- SPDX-License-Identifier: Apache-2.0
+-- "Then oldest unpinned keys are removed until the rest fits, the rest restored in old slot order, those refused by a chain removed, and counts and
+-- counters carried over."
 use Prim.Native.Nat.{ℕ, zero, suc, _-_}
 use mathlib.Core.Bool.{not}
 use mathlib.Core.List.{List}

@@ -1,3 +1,4 @@
+-- SPDX-License-Identifier: Apache-2.0
 -- What the private parts of resize hand back, read as results of the rules.
 use Prim.Native.Nat.{ℕ}
 use mathlib.Core.Bool.{not}

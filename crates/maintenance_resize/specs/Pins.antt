@@ -1,3 +1,4 @@
+-- SPDX-License-Identifier: Apache-2.0
 -- "pins are a lent byte for each slot, 0 unpinned, other pinned."
 use Prim.Native.Nat.{ℕ, zero, suc, _+_, max}
 use mathlib.Core.Bool.{Bool, true, _&&_, _||_}

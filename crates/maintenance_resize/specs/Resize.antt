@@ -1,3 +1,4 @@
+-- SPDX-License-Identifier: Apache-2.0
 -- "Resize is `maintain_capacity` after its gate, one step."
 use Prim.Native.Nat.{ℕ}
 use mathlib.Core.Bool.{_&&_}

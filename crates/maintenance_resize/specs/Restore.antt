@@ -1,4 +1,6 @@
--- "pinned keys are restored in old slot order into a fresh table; if a chain refuses one, double the capacity while shrinking and below half the old (rounded down), else Busy."
+-- SPDX-License-Identifier: Apache-2.0
+-- "pinned keys are restored in old slot order into a fresh table; if a chain refuses one, double the capacity while shrinking and below half the old
+-- (rounded down), else Busy."
 use Prim.Native.Nat.{ℕ, zero, suc, _+_, _*_, _/_}
 use mathlib.Core.Bool.{Bool, not, _&&_}
 use mathlib.Core.List.{List}

@@ -1,5 +1,6 @@
 // SPDX-FileCopyrightText: 2026 roolrz
 // SPDX-License-Identifier: Apache-2.0
+// Ported from src/fs/cache/maintenance.rs of HypeR-Proj/kernel at 53afd06a1d, changed; see NOTICE.
 
 // maintenance.rs, resize (`maintain_capacity` after its gate). It works on any table; a refusal hands back the table, and the lent list, as they
 // came.
@@ -57,8 +58,10 @@ fn empties(clean: usize, capacity: usize, old: usize) -> bool
 
 // From the raised capacity on.
 fn resize_to(t: State, pins: &[u8], list: &mut [u16], capacity: usize) -> Maintained
-    requires { ⌜ ((sound t ≡ true) × (length (now pins) ≡ t .capacity)) × ((length (now list) ≡ t .capacity) × ((0 < capacity) × (capacity ≤ 256))) ⌝ }
-    ensures { λ r. ⌜ maintainedAfter r (now (list .exit)) ≡ unlessRefused t (now (list .entry)) (resizeTo t (now (pins .entry)) (now (list .entry)) capacity) ⌝ }
+    requires { ⌜ ((sound t ≡ true) × (length (now pins) ≡ t .capacity))
+        × ((length (now list) ≡ t .capacity) × ((0 < capacity) × (capacity ≤ 256))) ⌝ }
+    ensures { λ r. ⌜ maintainedAfter r (now (list .exit))
+        ≡ unlessRefused t (now (list .entry)) (resizeTo t (now (pins .entry)) (now (list .entry)) capacity) ⌝ }
 {
     if capacity == t.capacity {
         return Maintained {

@@ -1,5 +1,6 @@
 // SPDX-FileCopyrightText: 2026 roolrz
 // SPDX-License-Identifier: Apache-2.0
+// Ported from src/fs/cache/maintenance.rs of HypeR-Proj/kernel at 53afd06a1d, changed; see NOTICE.
 
 // maintenance.rs, what the pins of a resize say: how many there are, what capacity they need, and whether each is on a clean slot.
 ghost use mathlib.Core.Path.{_≡_};

@@ -1,5 +1,6 @@
 // SPDX-FileCopyrightText: 2026 roolrz
 // SPDX-License-Identifier: Apache-2.0
+// Ported from src/fs/cache/maintenance.rs of HypeR-Proj/kernel at 53afd06a1d, changed; see NOTICE.
 
 // maintenance.rs, the steps from the new table with the pinned keys on: what leaves the old table, what the new one takes, and the list.
 ghost use mathlib.Core.Path.{_≡_};
@@ -88,7 +89,8 @@ fn room_left(capacity: usize, clean: usize) -> usize
 // The oldest keys are removed until the rest fits.
 fn drop_oldest(mut old: State, room: usize) -> Finished
     requires { ⌜ sound old ≡ true ⌝ }
-    ensures { λ r. ⌜ ((new : State) (list : List ℕ) → room ≡ new .capacity - new .clean → tried (movingOf (r .state) new list) (r .answer) ≡ dropOldest 257 (movingOf old new list)) ⌝ }
+    ensures { λ r. ⌜ ((new : State) (list : List ℕ) → room ≡ new .capacity - new .clean
+        → tried (movingOf (r .state) new list) (r .answer) ≡ dropOldest 257 (movingOf old new list)) ⌝ }
     ensures { λ r. ⌜ (sound (r .state) ≡ true) × (r .state .capacity ≡ old .capacity) ⌝ }
 {
     let mut left: usize = 257;
@@ -141,7 +143,8 @@ fn drop_oldest(mut old: State, room: usize) -> Finished
 // The rest of the old table's keys are restored in old slot order, where a chain takes them.
 fn restore_rest(old: State, made: State) -> Finished
     requires { ⌜ old .capacity ≤ 256 ⌝ }
-    ensures { λ r. ⌜ ((list : List ℕ) → tried (movingOf old (r .state) list) (r .answer) ≡ eachSlot restoreRest (old .capacity) 0 (movingOf old made list)) ⌝ }
+    ensures { λ r. ⌜ ((list : List ℕ)
+        → tried (movingOf old (r .state) list) (r .answer) ≡ eachSlot restoreRest (old .capacity) 0 (movingOf old made list)) ⌝ }
 {
     let mut new = made;
     let mut slot: usize = 0;

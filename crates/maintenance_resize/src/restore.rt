@@ -1,5 +1,6 @@
 // SPDX-FileCopyrightText: 2026 roolrz
 // SPDX-License-Identifier: Apache-2.0
+// Ported from src/fs/cache/maintenance.rs of HypeR-Proj/kernel at 53afd06a1d, changed; see NOTICE.
 
 // maintenance.rs, keys put into a new table: `restore_clean`, and the table with the pinned keys.
 ghost use mathlib.Core.Path.{_≡_};

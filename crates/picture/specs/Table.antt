@@ -1,3 +1,4 @@
+-- SPDX-License-Identifier: Apache-2.0
 -- A table in plain numbers: the parts 2 to 9 and 11 of a trace, as oracle/README.md has them.
 use Prim.Native.Nat.{ℕ}
 use mathlib.Core.List.{List, [], _∷_, _++_}

@@ -1,3 +1,4 @@
+-- SPDX-License-Identifier: Apache-2.0
 -- The digits that `io::decimal` gives are those of the rule. Assumes nothing.
 use Prim.Native.Nat.{ℕ, zero, suc, _+_, _-_, _/_, _%_, _^_, _≤_, _<_}
 use native.Mathlib.Omega.{arith}

@@ -1,3 +1,4 @@
+-- SPDX-License-Identifier: Apache-2.0
 -- Laws of what is written: two writings are one of both texts, a byte, nothing; and the steps of the rules over a list. Assumes nothing.
 use Prim.Native.Nat.{ℕ, zero, suc, _+_, _-_, _≤_, _<_, min}
 use native.Mathlib.Omega.{arith}

@@ -1,3 +1,4 @@
+-- SPDX-License-Identifier: Apache-2.0
 -- What a list holds after a text was written into it from a place on.
 use Prim.Native.Nat.{ℕ, _+_, min}
 use mathlib.Core.Path.{_≡_}

@@ -1,3 +1,4 @@
+// SPDX-License-Identifier: Apache-2.0
 // Texts and numbers written into a list of bytes. Every function writes from a place of `out` on and answers the place behind what it wrote.
 // Where there is no room it writes less, and a place past the end is taken for the end, so an answer is always within `out`.
 ghost use mathlib.Core.Path.{_≡_};

@@ -1,3 +1,4 @@
+// SPDX-License-Identifier: Apache-2.0
 // Runs a sheet: records from standard input, lines to standard output. A read or a write that fails is told on standard error and ends it.
 use libc::STDERR_FILENO;
 

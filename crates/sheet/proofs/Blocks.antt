@@ -1,3 +1,4 @@
+-- SPDX-License-Identifier: Apache-2.0
 -- The program reads its input a block at a time and keeps only what stands and the number of the next record. That this prints
 -- what `runSheet` prints for the whole input is `blocks`: no contract can speak of what a program reads and writes. Assumes nothing.
 use Prim.Native.Nat.{ℕ, zero, suc, _+_, _-_, _*_, _≤_, _<_}

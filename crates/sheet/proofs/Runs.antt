@@ -1,3 +1,4 @@
+-- SPDX-License-Identifier: Apache-2.0
 -- Laws on a run: a byte of a line copied, one record, and none. Assumes nothing.
 use Prim.Native.Nat.{ℕ, zero, suc, _+_, _-_, _≤_, _<_}
 use native.Mathlib.Omega.{arith}

@@ -1,3 +1,4 @@
+-- SPDX-License-Identifier: Apache-2.0
 -- A whole sheet: the record number from 0, a line for each record, "and ends" after `bad`.
 use Prim.Native.Nat.{ℕ, zero, suc, _+_, _*_, _/_, _-_, min}
 use mathlib.Core.Bool.{Bool, true, false}

@@ -1,3 +1,4 @@
+-- SPDX-License-Identifier: Apache-2.0
 -- "24-byte records .. numbers low byte first: code, allow (0 or 1), kind, token place (0 to 15), a 32-bit number, file, index."
 use Prim.Native.Nat.{ℕ, zero, suc, _+_, _*_}
 use mathlib.Core.Bool.{Bool, _&&_}

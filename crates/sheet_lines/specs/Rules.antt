@@ -1,3 +1,4 @@
+-- SPDX-License-Identifier: Apache-2.0
 -- One name that opens every rule of records and lines, for what is computed: `unfolding lineRules`.
 use Prim.Native.Nat.{ℕ}
 use Rattle.sheet_lines.specs.Text.{bytesOf, digitsFrom, decimal}

@@ -1,3 +1,4 @@
+-- SPDX-License-Identifier: Apache-2.0
 -- Text as bytes: a word, and a number in decimal.
 use Prim.Native.Nat.{ℕ, zero, suc, _+_, _/_, _%_}
 use Prim.Native.Char.{code}

@@ -1,3 +1,4 @@
+-- SPDX-License-Identifier: Apache-2.0
 -- "Each line has five fields: record number from 0; answer; a number or `-`; clean slots; loading slots."
 use Prim.Native.Nat.{ℕ}
 use mathlib.Core.Bool.{Bool, true, false}

@@ -1,3 +1,4 @@
+// SPDX-License-Identifier: Apache-2.0
 // The records and lines of document 01's run sheets, on bytes, with the rules of both: a record is read. Crate `sheet_words` writes a line.
 ghost use mathlib.Core.Path.{_≡_};
 ghost use Prim.Native.Nat.{_+_, _≤_, _<_, _^_};

@@ -1,3 +1,4 @@
+-- SPDX-License-Identifier: Apache-2.0
 -- Laws of a record's bytes: they are read as the record. Assumes nothing.
 use Prim.Native.Nat.{ℕ, _+_, _*_, _/_, _%_, _≤_, _<_}
 use native.Mathlib.Omega.{arith}

@@ -1,3 +1,4 @@
+-- SPDX-License-Identifier: Apache-2.0
 -- The records that a sheet holds: the codes are 1 to 9, the places 0 to 15, the number has 32 bits.
 use Prim.Native.Nat.{ℕ, _+_, _*_}
 use mathlib.Core.Bool.{Bool, _&&_}

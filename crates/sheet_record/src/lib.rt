@@ -1,3 +1,4 @@
+// SPDX-License-Identifier: Apache-2.0
 // A record of a run sheet as its 24 bytes. They are read as the record again.
 ghost use mathlib.Core.Path.{_≡_};
 ghost use Prim.Native.Nat.{_/_, _%_};

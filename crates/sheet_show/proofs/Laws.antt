@@ -1,3 +1,4 @@
+-- SPDX-License-Identifier: Apache-2.0
 -- Laws of a record's line: bytes put behind a text, the lines of records.
 -- Assumes nothing.
 use Prim.Native.Nat.{ℕ, zero, suc, _+_, _-_, _≤_, _<_}

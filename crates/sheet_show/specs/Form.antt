@@ -1,3 +1,4 @@
+-- SPDX-License-Identifier: Apache-2.0
 -- The line of text that a record is shown as: the call's word with its number, then every field that is not what is usual, by its name. A record with
 -- something in a field that its call does not use is shown as `record`, with every field that is not 0.
 use Prim.Native.Nat.{ℕ, zero, suc}

@@ -1,3 +1,4 @@
+// SPDX-License-Identifier: Apache-2.0
 // A record of a run sheet as a line of text that a person can read (sheets/README.md): the call's word with its number, then the
 // fields by their names. A field that the call does not use is 0 in such a line; a record where one is not is shown as `record` with every field.
 ghost use mathlib.Core.Path.{_≡_};

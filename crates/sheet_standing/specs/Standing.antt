@@ -1,3 +1,4 @@
+-- SPDX-License-Identifier: Apache-2.0
 -- What stands between two records: the table, the token places, the pins, and whether there was a 1 that was not refused.
 use Prim.Native.Nat.{ℕ}
 use mathlib.Core.Bool.{true, false}

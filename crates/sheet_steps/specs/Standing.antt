@@ -1,3 +1,4 @@
+-- SPDX-License-Identifier: Apache-2.0
 -- What stands between two records, and what a record makes of it and says.
 use Rattle.sheet_standing.specs.declared.Standing.{Standing}
 use Rattle.sheet_lines.specs.declared.Said.{Said}

@@ -1,3 +1,4 @@
+-- SPDX-License-Identifier: Apache-2.0
 -- "Codes: 1 new, 2 access, 3 publish, 4 abort, 5 lookup, 6 remove slot, 7 set pin of a clean slot, 8 resize, 9 reclaim"
 use Prim.Native.Nat.{ℕ, zero, suc, _+_}
 use mathlib.Core.Bool.{Bool, true, not}

@@ -1,3 +1,4 @@
+// SPDX-License-Identifier: Apache-2.0
 // The run sheets of document 01: the step that a record makes.
 ghost use mathlib.Core.Path.{_≡_};
 ghost use mathlib.Core.Bool.{Bool};

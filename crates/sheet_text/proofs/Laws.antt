@@ -1,3 +1,4 @@
+-- SPDX-License-Identifier: Apache-2.0
 -- Laws of the text form, each end of a rule on plain variables: runs of blanks, numbers, words, the names of a list, values in their ranges, the words of
 -- a line.
 -- Assumes nothing.

@@ -1,3 +1,4 @@
+-- SPDX-License-Identifier: Apache-2.0
 -- The line of a record says the record again: each call, with fields at and off what is usual, used and unused. Lines that are wrong, each with the word
 -- that is wrong. Assumes nothing.
 use Prim.Native.Nat.{ℕ, _-_}

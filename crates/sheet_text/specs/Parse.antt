@@ -1,3 +1,4 @@
+-- SPDX-License-Identifier: Apache-2.0
 -- What a line of text says: its first word is the call, and each word behind it is `name=value`, or the call's number alone. `#` begins a comment.
 -- A call takes the fields that it uses, each at most once, and one that uses the number needs it; `record` takes every field, and needs the code.
 -- Where a line is wrong, the word that is wrong is told by its place in the line.

@@ -1,3 +1,4 @@
+// SPDX-License-Identifier: Apache-2.0
 // A line of a run sheet's text form read (sheets/README.md): one call a line, with names for fields. Crate `sheet_show` has the way back.
 ghost use mathlib.Core.Path.{_≡_};
 ghost use mathlib.Core.Bool.{true};

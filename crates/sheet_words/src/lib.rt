@@ -1,3 +1,4 @@
+// SPDX-License-Identifier: Apache-2.0
 // A line of document 01's run sheets written: the number of the record, the word, its number, the clean slots and the loading ones.
 ghost use mathlib.Core.Path.{_≡_};
 ghost use mathlib.Core.List.{_∷_, _++_};

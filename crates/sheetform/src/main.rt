@@ -1,3 +1,4 @@
+// SPDX-License-Identifier: Apache-2.0
 // Turns the text form of a run sheet into records, and records into text: standard input to standard output. Its argument is what it
 // writes, `records` or `text`. What is wrong with the input, a read or a write that fails, and how the program is used it says on standard
 // error, and ends; what it wrote before stays. What a line says is crate `sheet_text`'s, the line of a record `sheet_show`'s; here are the

@@ -1,3 +1,4 @@
+-- SPDX-License-Identifier: Apache-2.0
 -- `access_with_victim`.
 use Prim.Native.Nat.{ℕ, _+_, _-_}
 use mathlib.Core.Bool.{Bool, true, false, not}

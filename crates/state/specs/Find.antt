@@ -1,3 +1,4 @@
+-- SPDX-License-Identifier: Apache-2.0
 -- `find`: "Key clean: the next use number is taken, the slot touched, hits + 1, Hit. Key loading: in-progress + 1, LoadInProgress."
 use Prim.Native.Nat.{ℕ, zero, suc, _+_}
 use mathlib.Core.Bool.{not}

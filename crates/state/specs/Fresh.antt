@@ -1,3 +1,4 @@
+-- SPDX-License-Identifier: Apache-2.0
 -- `new`, and the first test of 10.
 use Prim.Native.Nat.{ℕ}
 use mathlib.Core.Bool.{Bool, _&&_}

@@ -1,3 +1,4 @@
+-- SPDX-License-Identifier: Apache-2.0
 -- `publish` and `abort`, and when a load is outstanding, which `validate` asks too.
 use Prim.Native.Nat.{_+_, _-_}
 use mathlib.Core.Bool.{Bool, not, _&&_}

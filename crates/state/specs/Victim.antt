@@ -1,3 +1,4 @@
+-- SPDX-License-Identifier: Apache-2.0
 -- "Else the top of the free stack; else the first unpinned slot among the first min(clean, 64) heap places".
 -- `c` is the capacity, `clean` the number of clean slots.
 use Prim.Native.Nat.{ℕ, min}

@@ -1,3 +1,4 @@
+-- SPDX-License-Identifier: Apache-2.0
 -- What the struct `Freed` says.
 use Rattle.basics.specs.Try.{Try, ok, refuse}
 use Rattle.basics.specs.declared.Done.{Done}

@@ -1,5 +1,6 @@
 // SPDX-FileCopyrightText: 2026 roolrz
 // SPDX-License-Identifier: Apache-2.0
+// Ported from src/fs/cache/state/mod.rs of HypeR-Proj/kernel at 53afd06a1d, changed; see NOTICE.
 
 // state/mod.rs, the call that makes a load: access (the Rust's `access_with_victim`). It works on any table and any pin bytes; a refusal hands
 // the table back as it came, but for the generation that 7 in a reservation uses up.

@@ -1,3 +1,4 @@
+-- SPDX-License-Identifier: Apache-2.0
 -- The victim search by the number of clean slots, and what an answer tells of its rule. Assumes nothing.
 use Prim.Native.Nat.{ℕ, min, _≤_, _<_}
 use mathlib.Core.Path.{_≡_, sym, _∙_, ap}

@@ -1,5 +1,6 @@
 // SPDX-FileCopyrightText: 2026 roolrz
 // SPDX-License-Identifier: Apache-2.0
+// Ported from src/fs/cache/state/mod.rs of HypeR-Proj/kernel at 53afd06a1d, changed; see NOTICE.
 
 // state/mod.rs, the choice of the slot that an absent key is loaded into: the top of the free stack, else a victim. Every function works on any
 // index, heap and pin bytes.

@@ -1,3 +1,4 @@
+-- SPDX-License-Identifier: Apache-2.0
 -- What taking a clean key out of a table keeps: its capacity, its bucket count, and lengths within the capacity. Assumes nothing.
 use Prim.Native.Nat.{ℕ, zero, suc, _-_, _≤_, _<_}
 use mathlib.Core.Path.{_≡_, sym, _∙_, ap}

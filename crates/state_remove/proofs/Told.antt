@@ -1,3 +1,4 @@
+-- SPDX-License-Identifier: Apache-2.0
 -- The answer of a call that takes a clean key out, as its rule's result. Assumes nothing.
 use Prim.Native.Nat.{ℕ, _<_}
 use mathlib.Core.Path.{_≡_, refl, sym, _∙_, ap}

@@ -1,5 +1,6 @@
 // SPDX-FileCopyrightText: 2026 roolrz
 // SPDX-License-Identifier: Apache-2.0
+// Ported from src/fs/cache/state/mod.rs of HypeR-Proj/kernel at 53afd06a1d, changed; see NOTICE.
 
 // state/mod.rs, the calls that take a clean key out of the table: remove_clean, which counts an eviction, and detach_clean, which does
 // not. Every call works on any table; a refusal hands the table back as it came.

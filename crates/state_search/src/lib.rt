@@ -1,5 +1,6 @@
 // SPDX-FileCopyrightText: 2026 roolrz
 // SPDX-License-Identifier: Apache-2.0
+// Ported from src/fs/cache/state/mod.rs of HypeR-Proj/kernel at 53afd06a1d, changed; see NOTICE.
 
 // state/mod.rs, what the searches of a key's chain share, and peek_clean. Lookup (`state_lookup`) and access (`state_access`) walk the chain themselves:
 // a function of its own would take the table by value, which copies it. Every function works on any table.

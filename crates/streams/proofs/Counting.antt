@@ -1,3 +1,4 @@
+-- SPDX-License-Identifier: Apache-2.0
 -- A count within a list counts its bytes. Assumes nothing.
 use Prim.Native.Nat.{ℕ, _≤_}
 use mathlib.Core.Path.{sym}

@@ -1,3 +1,4 @@
+// SPDX-License-Identifier: Apache-2.0
 // Standard input and output of the programs. A read or a write that fails is told on standard error, and the caller stops: a program has no
 // exit status. Which bytes are read and written no contract can say.
 ghost use mathlib.Core.Path.{_≡_};

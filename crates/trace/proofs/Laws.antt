@@ -1,3 +1,4 @@
+-- SPDX-License-Identifier: Apache-2.0
 -- Laws of a record's text: a line without its end, pins as words, and the two ends of the rule. Assumes nothing.
 use Prim.Native.Nat.{ℕ, _-_, _≤_, _<_}
 use native.Mathlib.Omega.{arith}

@@ -1,3 +1,4 @@
+-- SPDX-License-Identifier: Apache-2.0
 -- The trace of a record, as oracle/README.md has it.
 use Prim.Native.Nat.{ℕ, _-_}
 use mathlib.Core.List.{List, [], _∷_, _++_}

@@ -1,3 +1,4 @@
+// SPDX-License-Identifier: Apache-2.0
 // Runs a sheet from standard input, and writes for each record its line and the whole table behind it: the trace of oracle/README.md,
 // which `rust_sheet --trace` writes of the original. A read or a write that fails ends it.
 ghost use mathlib.Core.Path.{_≡_};

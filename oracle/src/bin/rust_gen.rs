@@ -1,3 +1,4 @@
+// SPDX-License-Identifier: Apache-2.0
 //! Writes sheets and made-up tables to standard output. The README says what each form makes.
 
 use std::io::{BufWriter, Write, stdin, stdout};

@@ -1,3 +1,4 @@
+// SPDX-License-Identifier: Apache-2.0
 //! Runs each case of standard input (a made-up table and one call) on the original and writes its line.
 //! Flags: --counts (the differences that decided, on standard error), --show N (case N as decimal numbers, which
 //! `rust_gen --cases` reads, and its line).

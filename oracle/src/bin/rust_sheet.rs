@@ -1,3 +1,4 @@
+// SPDX-License-Identifier: Apache-2.0
 //! Runs a sheet from standard input on the original. Flags: --trace (the table after each line), --check (stops at the first
 //! table that the original's assert_valid would refuse, and at a 10), --counts (differences that decided, on standard error).
 

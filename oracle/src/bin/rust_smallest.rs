@@ -1,3 +1,4 @@
+// SPDX-License-Identifier: Apache-2.0
 //! The smallest sheet that shows a difference: rust_smallest SHEET COMMAND COMMAND. The commands read a sheet from standard input. Records are
 //! left out, one or two at a time, and capacities made smaller, as long as the two still write different lines.
 

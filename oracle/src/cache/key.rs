@@ -1,3 +1,4 @@
+// SPDX-License-Identifier: Apache-2.0
 //! Document 01's key, in place of the original key.rs.
 
 /// The only type here that the original files read. The others are named by the original mod.rs and not used.

@@ -1,3 +1,4 @@
+// SPDX-License-Identifier: Apache-2.0
 //! Allocation for the original: the system's own, nothing accounted, always admitted.
 
 use alloc::vec::Vec;

@@ -1,3 +1,4 @@
+// SPDX-License-Identifier: Apache-2.0
 //! The original table with public functions. Each call below runs the original; nothing here decides an answer but that the
 //! original's stop is 10. Document 01's own rules stand in front of these calls, in calls.rs.
 

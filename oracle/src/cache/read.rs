@@ -1,3 +1,4 @@
+// SPDX-License-Identifier: Apache-2.0
 //! Names that the original mod.rs and write.rs need. Nothing runs them.
 
 use super::{CacheError, Refill};

@@ -1,3 +1,4 @@
+// SPDX-License-Identifier: Apache-2.0
 //! Names that the original mod.rs needs. Nothing runs them.
 
 pub(crate) struct PageRead;

@@ -1,1 +1,2 @@
+// SPDX-License-Identifier: Apache-2.0
 //! Declared by the original mod.rs; nothing of it is used.

@@ -1,3 +1,4 @@
+// SPDX-License-Identifier: Apache-2.0
 //! The kernel's worker, which the original tells of its steps. There is none here.
 
 pub(crate) fn request() {}

@@ -1,3 +1,4 @@
+-- SPDX-License-Identifier: Apache-2.0
 -- `basics::check_capacity` meets its contract: each return has the tests that led there. Assumes nothing.
 use Rattle.basics.specs.Capacity.{needCapacity}
 use Rattle.basics.proofs.Tests.{tests}

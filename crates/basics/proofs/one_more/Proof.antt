@@ -1,3 +1,4 @@
+-- SPDX-License-Identifier: Apache-2.0
 -- `basics::one_more` meets its contract: each return has the test that led there. Assumes nothing.
 use borrow.Author.Needs.{needs}
 use Rattle.basics.specs.Numbers.{more}

@@ -1,3 +1,4 @@
+-- SPDX-License-Identifier: Apache-2.0
 -- `bench::add` meets its contract. Assumes nothing.
 use Rattle.bench.specs.Sum.{plus}
 use borrow.Author.Needs.{needs}

@@ -1,3 +1,4 @@
+-- SPDX-License-Identifier: Apache-2.0
 -- `bench::of_access` meets its contract. Assumes nothing.
 use Rattle.bench.specs.Sum.{accessNumber}
 use borrow.Author.Needs.{needs}

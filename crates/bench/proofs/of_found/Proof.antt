@@ -1,3 +1,4 @@
+-- SPDX-License-Identifier: Apache-2.0
 -- `bench::of_found` meets its contract. Assumes nothing.
 use Rattle.bench.specs.Sum.{foundNumber}
 use borrow.Author.Needs.{needs}

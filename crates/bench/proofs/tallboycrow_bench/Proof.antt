@@ -1,3 +1,4 @@
+-- SPDX-License-Identifier: Apache-2.0
 -- `bench::tallboycrow_bench` meets its contract: the records that are left, from what stands, come to what the sheet comes to. Assumes nothing.
 use Prim.Native.Nat.{_+_, _*_, _/_, _≤_}
 use mathlib.Core.Path.{_≡_, sym, _∙_, ap}

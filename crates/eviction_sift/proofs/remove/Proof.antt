@@ -1,3 +1,4 @@
+-- SPDX-License-Identifier: Apache-2.0
 -- `eviction_sift::remove` meets its contract: each return is an end of the rule, and a refusal hands back the heap that was kept. Assumes nothing.
 use mathlib.Core.Path.{refl, sym, _∙_, ap}
 use borrow.Author.Needs.{needs}

@@ -1,3 +1,4 @@
+-- SPDX-License-Identifier: Apache-2.0
 -- `eviction_sift::touch` meets its contract: the sift is that of the rule, and what a refused one leaves to take back is the entry. Assumes nothing.
 use mathlib.Core.Path.{sym, _∙_}
 use borrow.Author.Needs.{needs}

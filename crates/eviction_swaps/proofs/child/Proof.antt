@@ -1,3 +1,4 @@
+-- SPDX-License-Identifier: Apache-2.0
 -- `child` meets its contract: it is the branch of the test. Assumes nothing.
 use native.Mathlib.Omega.{arith}
 use borrow.Author.Needs.{needs}

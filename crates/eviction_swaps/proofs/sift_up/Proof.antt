@@ -1,3 +1,4 @@
+-- SPDX-License-Identifier: Apache-2.0
 -- `eviction_swaps::sift_up` meets its contract: the loop sifts on from the place p in the steps left. Assumes nothing.
 use mathlib.Core.Path.{_≡_, refl, sym, _∙_, ap}
 use Prim.Native.Nat.{_<_}

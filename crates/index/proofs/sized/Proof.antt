@@ -1,3 +1,4 @@
+-- SPDX-License-Identifier: Apache-2.0
 -- `index::sized` meets its contract: one test after the other. Assumes nothing.
 use Rattle.basics.proofs.Tests.{tests}
 use Rattle.index.specs.Chain.{sizes}

@@ -1,3 +1,4 @@
+-- SPDX-License-Identifier: Apache-2.0
 -- `index_chains::can_insert` meets its contract. Assumes nothing.
 use mathlib.Core.Path.{refl}
 use borrow.Author.Needs.{needs}

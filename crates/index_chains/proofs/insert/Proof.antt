@@ -1,3 +1,4 @@
+-- SPDX-License-Identifier: Apache-2.0
 -- `index_chains::insert` meets its contract. Assumes nothing.
 use mathlib.Core.Path.{refl, _∙_}
 use borrow.Author.Needs.{needs}

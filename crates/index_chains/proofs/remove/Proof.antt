@@ -1,3 +1,4 @@
+-- SPDX-License-Identifier: Apache-2.0
 -- `index_chains::remove` meets its contract: the rest of the search answers what the whole search does. Assumes nothing.
 use Prim.Native.Nat.{_<_}
 use mathlib.Core.Path.{_≡_, refl}

@@ -1,3 +1,4 @@
+-- SPDX-License-Identifier: Apache-2.0
 -- `index_chains::room_from` meets its contract: the rest of the walk answers what the whole walk does. Assumes nothing.
 use mathlib.Core.Path.{_≡_, refl}
 use borrow.Author.Needs.{needs}

@@ -1,3 +1,4 @@
+-- SPDX-License-Identifier: Apache-2.0
 -- `vacate` meets its contract: each return has what the index told. Assumes nothing.
 use Rattle.index.specs.Chain.{removeIndex}
 use Rattle.index.specs.Free.{releaseIndex, vacate}

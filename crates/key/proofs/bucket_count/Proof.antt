@@ -1,3 +1,4 @@
+-- SPDX-License-Identifier: Apache-2.0
 -- `key::bucket_count` meets its contract: the table's rule is a test at each of its 256 entries, which antt computes. Assumes nothing.
 use Prim.Native.Nat.{ℕ, suc, _-_, _*_, _<_, _≤_}
 use mathlib.Core.Path.{_≡_, refl, sym, _∙_, ap}

@@ -1,3 +1,4 @@
+-- SPDX-License-Identifier: Apache-2.0
 -- Access: the answer is what the ledger gives, or among those that it leaves open, and table and ledger agree after; and the key that goes is
 -- the least recently used one, if it is unpinned. Assumes nothing.
 use Prim.Native.Nat.{ℕ, _<_}

@@ -1,3 +1,4 @@
+-- SPDX-License-Identifier: Apache-2.0
 -- What the ledger gives for an access, told by the table: the key's chain, its stack and the places of its heap. Assumes nothing.
 use Prim.Native.Nat.{ℕ, _<_, _≤_, min}
 use native.Mathlib.Omega.{arith}

@@ -1,3 +1,4 @@
+-- SPDX-License-Identifier: Apache-2.0
 -- Remove and detach: the key of a clean slot leaves, a refusal leaves table and ledger as they were. Assumes nothing.
 use Prim.Native.Nat.{ℕ}
 use Rattle.basics.specs.Answers.{Fine}

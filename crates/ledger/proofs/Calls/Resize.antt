@@ -1,3 +1,4 @@
+-- SPDX-License-Identifier: Apache-2.0
 -- Resize: table and ledger agree after it; pinned keys stay, last uses stay, no key appears, and growing loses none. Assumes nothing.
 use Prim.Native.Nat.{ℕ, _<_}
 use native.Mathlib.Omega.{arith}

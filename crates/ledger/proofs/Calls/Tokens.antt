@@ -1,3 +1,4 @@
+-- SPDX-License-Identifier: Apache-2.0
 -- Publish and abort of a token given out: they succeed while it is outstanding and otherwise give 6, and table and ledger agree after.
 -- Assumes nothing.
 use native.Mathlib.Omega.{arith}

@@ -1,3 +1,4 @@
+-- SPDX-License-Identifier: Apache-2.0
 -- A key used, and a key made clean: the list changes at that key only. Assumes nothing.
 use Prim.Native.Nat.{ℕ, _<_}
 use native.Mathlib.Omega.{arith}

@@ -1,3 +1,4 @@
+-- SPDX-License-Identifier: Apache-2.0
 -- The key that a list of keys has in a slot: a map from slots that a key put in, taken out or changed changes at one place. Assumes nothing.
 use Prim.Native.Nat.{ℕ}
 use mathlib.Core.Path.{_≡_, refl, sym, ap, _∙_}

@@ -1,3 +1,4 @@
+-- SPDX-License-Identifier: Apache-2.0
 -- A table and a ledger agree: the numbers are the same, each slot shows the ledger's key there or none, and each outstanding token has its
 -- loading slot. What one side has is found on the other, and the table is valid. Assumes nothing.
 use Prim.Native.Nat.{ℕ, _<_, _≤_}

@@ -1,3 +1,4 @@
+-- SPDX-License-Identifier: Apache-2.0
 -- What holds of every ledger: its keys are apart, in slots below the capacity and dated by numbers given, and so are its tokens; and every
 -- change of the ledger keeps that. Assumes nothing.
 use Prim.Native.Nat.{ℕ, _+_, _<_, _≤_}

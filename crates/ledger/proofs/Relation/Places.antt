@@ -1,3 +1,4 @@
+-- SPDX-License-Identifier: Apache-2.0
 -- The ledger's clean keys are those in the heap: the oldest stands at the root, and where every place that a victim search looks at is
 -- pinned, all clean keys are, or 64. Assumes nothing.
 use Prim.Native.Nat.{ℕ, _<_, _≤_, min}

@@ -1,3 +1,4 @@
+-- SPDX-License-Identifier: Apache-2.0
 -- Where one slot of the table is anew and the ledger changes by its key there, the two agree again: a key used, a key that leaves, a token
 -- published or aborted, a reservation. Assumes nothing.
 use Prim.Native.Nat.{ℕ, _+_, _<_}

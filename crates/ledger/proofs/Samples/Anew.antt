@@ -1,3 +1,4 @@
+-- SPDX-License-Identifier: Apache-2.0
 -- An emptied table made smaller: the ledger begins anew, and a token of generation 1 is given again and is good. Assumes nothing.
 use mathlib.Core.Path.{_≡_, refl}
 use mathlib.Core.Bool.{true}

@@ -1,3 +1,4 @@
+-- SPDX-License-Identifier: Apache-2.0
 -- Counts next to their end, at 256 slots. Of any machine of which the claim holds there is a list of calls that meets the premises and after
 -- which no key is present and both counts stand at any number below 2^64 − 1: a key is reserved and aborted so often. The number stays a
 -- variable, and no table is computed. Assumes nothing.

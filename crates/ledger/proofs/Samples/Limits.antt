@@ -1,3 +1,4 @@
+-- SPDX-License-Identifier: Apache-2.0
 -- The ledger's 64, at its edge: with 63 clean keys pinned some unpinned key goes, with 64 CapacityBusy may come; 63 keys of a bucket leave a
 -- vacancy, 64 do not. Assumes nothing.
 use Prim.Native.Nat.{ℕ, zero, suc, _+_, _*_}

@@ -1,3 +1,4 @@
+-- SPDX-License-Identifier: Apache-2.0
 -- The premises of the claim as a test that is computed. Assumes nothing.
 use mathlib.Core.Path.{_≡_}
 use mathlib.Core.Bool.{Bool, true, _&&_}

@@ -1,3 +1,4 @@
+-- SPDX-License-Identifier: Apache-2.0
 -- The theorem at the lists of calls of the samples. Assumes nothing.
 use native.Mathlib.Omega.{arith}
 use Rattle.state.specs.Fresh.{fresh}

@@ -1,3 +1,4 @@
+-- SPDX-License-Identifier: Apache-2.0
 -- Short names for what the lists of calls are written with. Assumes nothing.
 use Prim.Native.Nat.{ℕ}
 use mathlib.Core.Bool.{Bool}

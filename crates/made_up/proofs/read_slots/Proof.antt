@@ -1,3 +1,4 @@
+-- SPDX-License-Identifier: Apache-2.0
 -- `made_up::read_slots` meets its contract. The invariant: the places that are left are within the list. Assumes nothing.
 use Prim.Native.Nat.{_+_, _≤_}
 use mathlib.Core.Path.{_≡_}

@@ -1,3 +1,4 @@
+-- SPDX-License-Identifier: Apache-2.0
 -- `made_up::read_words` meets its contract. The invariant: the places that are left are within the list, which stays as long as it was. Assumes nothing.
 use Prim.Native.Nat.{_+_, _≤_}
 use mathlib.Core.Path.{_≡_}

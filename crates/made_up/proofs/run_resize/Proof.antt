@@ -1,3 +1,4 @@
+-- SPDX-License-Identifier: Apache-2.0
 -- `made_up::run_resize` meets its contract: what is lent of the list is as long as asked. Assumes nothing.
 use mathlib.Core.Path.{sym}
 use native.Mathlib.Omega.{arith}

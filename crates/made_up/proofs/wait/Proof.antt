@@ -1,3 +1,4 @@
+-- SPDX-License-Identifier: Apache-2.0
 -- `made_up::wait` meets its contract. The invariant: bytes go to places in front of them, within the list. Assumes nothing.
 use Prim.Native.Nat.{_-_, _≤_}
 use mathlib.Core.Path.{_≡_}

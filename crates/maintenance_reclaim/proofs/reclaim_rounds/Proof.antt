@@ -1,3 +1,4 @@
+-- SPDX-License-Identifier: Apache-2.0
 -- `maintenance_reclaim::reclaim_rounds` meets its contract: what is left to do is in the rounds left, and the table passes its first test throughout.
 -- Assumes nothing.
 use Prim.Native.Nat.{_+_, _≤_}

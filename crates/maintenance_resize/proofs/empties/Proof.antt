@@ -1,3 +1,4 @@
+-- SPDX-License-Identifier: Apache-2.0
 -- `maintenance_resize::empties` meets its contract. Assumes nothing.
 use Rattle.basics.proofs.Tests.{tests}
 use Rattle.maintenance_resize.proofs.empties.Statement.{statement}

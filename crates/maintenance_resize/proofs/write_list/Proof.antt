@@ -1,3 +1,4 @@
+-- SPDX-License-Identifier: Apache-2.0
 -- `maintenance_resize::write_list` meets its contract: the list is written as far as place i, and as it was from there on. Assumes nothing.
 use Prim.Native.Nat.{_+_, _-_, _≤_, _<_}
 use mathlib.Core.Path.{_≡_, refl}

@@ -1,3 +1,4 @@
+-- SPDX-License-Identifier: Apache-2.0
 -- `picture::put_slots_past` meets its contract. Assumes nothing.
 use mathlib.Core.Path.{_∙_, _≡_, ap}
 use mathlib.Core.List.{[], _∷_}

@@ -1,3 +1,4 @@
+-- SPDX-License-Identifier: Apache-2.0
 -- `picture::walk_entries` meets its contract. The invariant is `Walking`. Assumes nothing.
 use mathlib.Core.Path.{_≡_}
 use lib.ListN.{length}

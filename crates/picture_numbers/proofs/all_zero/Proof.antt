@@ -1,3 +1,4 @@
+-- SPDX-License-Identifier: Apache-2.0
 -- `picture_numbers::all_zero` meets its contract. The invariant: all are 0 where all that are left are 0. Assumes nothing.
 use Prim.Native.Nat.{_+_}
 use mathlib.Core.Path.{_≡_, sym, _∙_}

@@ -1,3 +1,4 @@
+-- SPDX-License-Identifier: Apache-2.0
 -- `picture_numbers::flush` meets its contract. Assumes nothing.
 use Prim.Native.Nat.{min}
 use mathlib.Core.Path.{refl, sym}

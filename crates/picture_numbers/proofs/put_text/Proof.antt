@@ -1,3 +1,4 @@
+-- SPDX-License-Identifier: Apache-2.0
 -- `picture_numbers::put_text` meets its contract. The invariant: what is left of the text, written from the place reached, makes the whole; and so many bytes
 -- are left as there is text and room for. Assumes nothing.
 use Prim.Native.Nat.{_+_, _-_, _≤_, min}

@@ -1,3 +1,4 @@
+-- SPDX-License-Identifier: Apache-2.0
 -- `picture_numbers::put_words` meets its contract. Assumes nothing.
 use mathlib.Core.Path.{ap}
 use lib.ListN.{take}

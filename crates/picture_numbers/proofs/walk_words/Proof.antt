@@ -1,3 +1,4 @@
+-- SPDX-License-Identifier: Apache-2.0
 -- `picture_numbers::walk_words` meets its contract. The invariant is `Walking`. Assumes nothing.
 use mathlib.Core.Path.{ap}
 use mathlib.Core.List.{[], _∷_}

@@ -1,3 +1,4 @@
+-- SPDX-License-Identifier: Apache-2.0
 -- `runsheet::main` runs safely and ends: the count of blocks falls. Assumes nothing.
 use native.Mathlib.Omega.{arith}
 use mathlib.Core.Path.{_≡_, sym}

@@ -1,3 +1,4 @@
+-- SPDX-License-Identifier: Apache-2.0
 -- `sheet::turns` meets its contract. Assumes nothing.
 use native.Mathlib.Omega.{arith}
 use Rattle.sheet.specs.Run.{turns}

@@ -1,3 +1,4 @@
+-- SPDX-License-Identifier: Apache-2.0
 -- `sheet::write_line` meets its contract. The invariant: what is copied and what is left of the line are the list's front and the line. Assumes nothing.
 use Prim.Native.Nat.{_+_, _-_, _≤_, _<_}
 use mathlib.Core.Path.{_≡_, sym, _∙_, ap}

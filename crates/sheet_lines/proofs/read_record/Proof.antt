@@ -1,3 +1,4 @@
+-- SPDX-License-Identifier: Apache-2.0
 -- `sheet_lines::read_record` meets its contract: each return is a case of the rule. Assumes nothing.
 use native.Mathlib.Omega.{arith}
 use Rattle.basics.proofs.Tests.{tests}

@@ -1,3 +1,4 @@
+-- SPDX-License-Identifier: Apache-2.0
 -- `sheet_record::low_4` meets its contract. Assumes nothing.
 use Rattle.sheet_record.proofs.Laws.{four-parts}
 use native.Mathlib.Omega.{arith}

@@ -1,3 +1,4 @@
+-- SPDX-License-Identifier: Apache-2.0
 -- `sheet_record::write_record` meets its contract. Assumes nothing.
 use Rattle.sheet_record.proofs.Laws.{far-place, far-number, reads-back}
 use native.Mathlib.Omega.{arith}

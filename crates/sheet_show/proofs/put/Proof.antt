@@ -1,3 +1,4 @@
+-- SPDX-License-Identifier: Apache-2.0
 -- `sheet_show::put` meets its contract. The invariant: the text, and what was passed of the word behind it. Assumes nothing.
 use mathlib.Core.Path.{sym, ap, _∙_, _≡_}
 use mathlib.Core.List.{append-nil, _++_}

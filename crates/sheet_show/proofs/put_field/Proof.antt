@@ -1,3 +1,4 @@
+-- SPDX-License-Identifier: Apache-2.0
 -- `sheet_show::put_field` meets its contract. Assumes nothing.
 use lib.ListN.{take}
 use Rattle.sheet_lines.specs.Text.{decimal}

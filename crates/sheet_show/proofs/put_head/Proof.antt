@@ -1,3 +1,4 @@
+-- SPDX-License-Identifier: Apache-2.0
 -- `sheet_show::put_head` meets its contract. Assumes nothing.
 use Rattle.basics.proofs.Tests.{flag}
 use Rattle.sheet_show.specs.Form.{headText}

@@ -1,3 +1,4 @@
+-- SPDX-License-Identifier: Apache-2.0
 -- `sheet_show::put_word` meets its contract. Assumes nothing.
 use mathlib.Core.Path.{sym, _∙_, ap}
 use native.Mathlib.Omega.{arith}

@@ -1,3 +1,4 @@
+-- SPDX-License-Identifier: Apache-2.0
 -- `sheet_show::usual_allow` meets its contract. Assumes nothing.
 use Rattle.basics.proofs.Tests.{yes, no}
 use borrow.Author.Tests.{eq-eqb, ne-eqb}

@@ -1,3 +1,4 @@
+-- SPDX-License-Identifier: Apache-2.0
 -- `sheet_standing::afresh` meets its contract. Assumes nothing.
 use Rattle.sheet_standing.specs.Standing.{emptyPlaces, noPins, afresh}
 use borrow.Author.Needs.{needs}

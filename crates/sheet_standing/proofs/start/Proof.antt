@@ -1,3 +1,4 @@
+-- SPDX-License-Identifier: Apache-2.0
 -- `sheet_standing::start` meets its contract: a refused table is the one with nothing in it. Assumes nothing.
 use mathlib.Core.Path.{ap}
 use Rattle.basics.specs.Capacity.{needCapacity}

@@ -1,3 +1,4 @@
+-- SPDX-License-Identifier: Apache-2.0
 -- `sheet_steps::after_remove` meets its contract. Assumes nothing.
 use Rattle.sheet_steps.specs.Steps.{sayRemoved}
 use borrow.Author.Needs.{needs}

@@ -1,3 +1,4 @@
+-- SPDX-License-Identifier: Apache-2.0
 -- `sheet_steps::found_word` meets its contract. Assumes nothing.
 use Rattle.sheet_steps.specs.Steps.{sayFound}
 use borrow.Author.Needs.{needs}

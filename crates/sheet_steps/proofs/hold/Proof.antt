@@ -1,3 +1,4 @@
+-- SPDX-License-Identifier: Apache-2.0
 -- `sheet_steps::hold` meets its contract. Assumes nothing.
 use Rattle.sheet_steps.specs.Steps.{sayAccess}
 use Rattle.sheet_steps.proofs.Cases.{hold-reserved}

@@ -1,3 +1,4 @@
+-- SPDX-License-Identifier: Apache-2.0
 -- `sheet_steps::move_pins` meets its contract: what is left to move, from the pins moved so far, is what there was to move. Assumes nothing.
 use Prim.Native.Nat.{_+_, _<_}
 use mathlib.Core.Path.{_≡_, refl, sym, _∙_}

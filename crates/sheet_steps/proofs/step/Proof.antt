@@ -1,3 +1,4 @@
+-- SPDX-License-Identifier: Apache-2.0
 -- `sheet_steps::step` meets its contract: each return is a case of the record, by the law of its code. `list-known` is the length of the list that
 -- resize left. Assumes nothing.
 use mathlib.Core.Path.{_≡_, sym, _∙_, ap}

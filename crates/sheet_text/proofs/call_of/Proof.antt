@@ -1,3 +1,4 @@
+-- SPDX-License-Identifier: Apache-2.0
 -- `sheet_text::call_of` meets its contract. Assumes nothing.
 use Rattle.sheet_lines.specs.Text.{bytesOf}
 use Rattle.sheet_text.specs.Parse.{callOf}

@@ -1,3 +1,4 @@
+-- SPDX-License-Identifier: Apache-2.0
 -- `sheet_text::counts_as` meets its contract. Assumes nothing.
 use Rattle.basics.proofs.Tests.{flag}
 use Rattle.sheet_text.specs.Parse.{countsAs}

@@ -1,3 +1,4 @@
+-- SPDX-License-Identifier: Apache-2.0
 -- `sheet_text::is` meets its contract. Assumes nothing.
 use Rattle.sheet_text.proofs.Laws.{same-means}
 use borrow.Author.Needs.{needs}

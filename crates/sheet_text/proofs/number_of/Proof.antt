@@ -1,3 +1,4 @@
+-- SPDX-License-Identifier: Apache-2.0
 -- `sheet_text::number_of` meets its contract. The invariant: what the digits that are left make of the number so far is the number of the word. Assumes nothing.
 use mathlib.Core.Path.{sym, _∙_, _≡_}
 use Rattle.sheet_text.proofs.Laws.{digit-low, digit-high, digit-large, digit-goes, digits-end}

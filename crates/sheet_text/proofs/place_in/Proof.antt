@@ -1,3 +1,4 @@
+-- SPDX-License-Identifier: Apache-2.0
 -- `sheet_text::place_in` meets its contract. The invariant: the names passed and the place among those that are left make the place among all of
 -- them. Assumes nothing.
 use native.Mathlib.Omega.{arith}

@@ -1,3 +1,4 @@
+-- SPDX-License-Identifier: Apache-2.0
 -- `sheet_text::plain` meets its contract. Assumes nothing.
 use borrow.Author.Tests.{lt-ltb, le-leb}
 use Rattle.sheet_text.specs.Parse.{plainCall, within}

@@ -1,3 +1,4 @@
+-- SPDX-License-Identifier: Apache-2.0
 -- `sheet_text::record_of` meets its contract. Assumes nothing.
 use Rattle.sheet_text.specs.Parse.{recordOf}
 use Rattle.sheet_text.proofs.Laws.{within-parts}

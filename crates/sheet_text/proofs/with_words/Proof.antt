@@ -1,3 +1,4 @@
+-- SPDX-License-Identifier: Apache-2.0
 -- `sheet_text::with_words` meets its contract. The invariant: what the words that are left make of the call so far is what all of them make of the
 -- call. Assumes nothing.
 use native.Mathlib.Omega.{arith}

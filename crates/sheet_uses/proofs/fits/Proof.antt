@@ -1,3 +1,4 @@
+-- SPDX-License-Identifier: Apache-2.0
 -- `sheet_uses::fits` meets its contract. Assumes nothing.
 use Rattle.sheet_uses.specs.Uses.{fits}
 use Rattle.sheet_uses.proofs.fits.Statement.{statement}

@@ -1,3 +1,4 @@
+-- SPDX-License-Identifier: Apache-2.0
 -- `sheet_uses::is_code` meets its contract. Assumes nothing.
 use Rattle.basics.proofs.Tests.{tests}
 use Rattle.sheet_uses.specs.Uses.{isCode}

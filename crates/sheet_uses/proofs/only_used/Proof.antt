@@ -1,3 +1,4 @@
+-- SPDX-License-Identifier: Apache-2.0
 -- `sheet_uses::only_used` meets its contract. Assumes nothing.
 use Rattle.sheet_uses.specs.Uses.{onlyUsed}
 use borrow.Author.Needs.{needs}

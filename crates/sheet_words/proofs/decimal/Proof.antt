@@ -1,3 +1,4 @@
+-- SPDX-License-Identifier: Apache-2.0
 -- `sheet_words::decimal` meets its contract: nothing stands behind the digits. Assumes nothing.
 use mathlib.Core.Path.{_∙_}
 use mathlib.Core.List.{append-nil}

@@ -1,3 +1,4 @@
+-- SPDX-License-Identifier: Apache-2.0
 -- `sheet_words::digits` meets its contract. The invariant: the digits still to be put in front of what stands are those of the whole number. Assumes nothing.
 use Prim.Native.Nat.{_+_, _%_, _≤_}
 use mathlib.Core.Path.{_≡_, refl, sym, _∙_}

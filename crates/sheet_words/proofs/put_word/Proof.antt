@@ -1,3 +1,4 @@
+-- SPDX-License-Identifier: Apache-2.0
 -- `sheet_words::put_word` meets its contract: each word is the text of its bytes. Assumes nothing.
 use native.Mathlib.Omega.{arith}
 use Rattle.sheet_lines.specs.Text.{bytesOf}

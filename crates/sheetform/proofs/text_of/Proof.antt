@@ -1,3 +1,4 @@
+-- SPDX-License-Identifier: Apache-2.0
 -- `sheetform::text_of` meets its contract. The invariant: what is written, and the lines of the records that are left behind it, are the lines of
 -- all. Assumes nothing.
 use Prim.Native.Nat.{_-_, _+_, _*_, _/_, _≤_}

@@ -1,3 +1,4 @@
+-- SPDX-License-Identifier: Apache-2.0
 -- `sheetform::write_records` meets its contract. Assumes nothing.
 use native.Mathlib.Omega.{arith}
 use Rattle.sheetform.proofs.write_records.Statement.{statement}

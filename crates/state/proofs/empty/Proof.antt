@@ -1,3 +1,4 @@
+-- SPDX-License-Identifier: Apache-2.0
 -- `empty` meets its contract. Assumes nothing.
 use Rattle.state.specs.Fresh.{empty}
 use borrow.Author.Needs.{needs}

@@ -1,3 +1,4 @@
+-- SPDX-License-Identifier: Apache-2.0
 -- `loads_for` meets its contract: one test after the other. Assumes nothing.
 use Rattle.basics.proofs.Tests.{tests, yes, no}
 use Rattle.state.specs.Tokens.{loadsFor}

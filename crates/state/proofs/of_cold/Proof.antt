@@ -1,3 +1,4 @@
+-- SPDX-License-Identifier: Apache-2.0
 -- `of_cold` meets its contract: each case is the same. Assumes nothing.
 use mathlib.Core.Path.{sym, ap}
 use Rattle.eviction.specs.Answers.{coldAnswer}

@@ -1,3 +1,4 @@
+-- SPDX-License-Identifier: Apache-2.0
 -- `sound` meets its contract: the bucket count stands for the test of the capacity. Assumes nothing.
 use mathlib.Core.Path.{sym}
 use Rattle.basics.proofs.Tests.{tests}

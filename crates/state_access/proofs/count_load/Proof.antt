@@ -1,3 +1,4 @@
+-- SPDX-License-Identifier: Apache-2.0
 -- `state_access::count_load` meets its contract. Assumes nothing.
 use borrow.Author.Needs.{needs}
 use Rattle.state_access.proofs.count_load.Statement.{statement}

@@ -1,3 +1,4 @@
+-- SPDX-License-Identifier: Apache-2.0
 -- `state_access::free` meets its contract. Assumes nothing.
 use borrow.Author.Tests.{eq-eqb, ne-eqb}
 use Rattle.basics.proofs.Tests.{no-ltb, some-ltb}

@@ -1,3 +1,4 @@
+-- SPDX-License-Identifier: Apache-2.0
 -- `state_choice::choose` meets its contract. Assumes nothing.
 use Rattle.state.specs.Access.{choose}
 use borrow.Author.Needs.{needs}

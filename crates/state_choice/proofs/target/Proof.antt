@@ -1,3 +1,4 @@
+-- SPDX-License-Identifier: Apache-2.0
 -- `state_choice::target` meets its contract. Assumes nothing.
 use Rattle.state.specs.Victim.{targetOr, target}
 use borrow.Author.Needs.{needs}

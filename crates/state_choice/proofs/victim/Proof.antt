@@ -1,3 +1,4 @@
+-- SPDX-License-Identifier: Apache-2.0
 -- `state_choice::victim` meets its contract. Assumes nothing.
 use mathlib.Core.Path.{_∙_}
 use Rattle.state_choice.proofs.Cases.{victim-few, victim-most}

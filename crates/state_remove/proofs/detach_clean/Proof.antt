@@ -1,3 +1,4 @@
+-- SPDX-License-Identifier: Apache-2.0
 -- `detach_clean` meets its contract: it is the counted detaching. Assumes nothing.
 use Rattle.state_remove.proofs.Cases.{detach-counted}
 use borrow.Author.Needs.{needs}

@@ -1,3 +1,4 @@
+-- SPDX-License-Identifier: Apache-2.0
 -- `detach_counted` meets its contract: each return has an end of the rule. Assumes nothing.
 use mathlib.Core.Path.{sym, _∙_}
 use Rattle.basics.proofs.Tests.{tests, yes, no}

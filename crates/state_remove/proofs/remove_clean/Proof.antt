@@ -1,3 +1,4 @@
+-- SPDX-License-Identifier: Apache-2.0
 -- `remove_clean` meets its contract: it is the counted detaching. Assumes nothing.
 use Rattle.state_remove.proofs.Cases.{remove-counted}
 use borrow.Author.Needs.{needs}

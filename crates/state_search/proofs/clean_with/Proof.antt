@@ -1,3 +1,4 @@
+-- SPDX-License-Identifier: Apache-2.0
 -- `clean_with` meets its contract. Assumes nothing.
 use Rattle.basics.proofs.Tests.{tests}
 use Rattle.state.specs.Slots.{cleanWith}

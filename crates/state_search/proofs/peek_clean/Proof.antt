@@ -1,3 +1,4 @@
+-- SPDX-License-Identifier: Apache-2.0
 -- `peek_clean` meets its contract. The invariant: the walk from here on, with the steps left, is the whole walk. The measure is what is left. Assumes nothing.
 use mathlib.Core.Path.{_≡_, refl}
 use borrow.Author.Tests.{le-leb, lt-leb, eq-eqb, ne-eqb}

@@ -1,3 +1,4 @@
+-- SPDX-License-Identifier: Apache-2.0
 -- `touch_next` meets its contract. Assumes nothing.
 use Rattle.basics.proofs.Tests.{tests}
 use Rattle.state.specs.Find.{touchNext}

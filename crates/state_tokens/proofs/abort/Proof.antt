@@ -1,3 +1,4 @@
+-- SPDX-License-Identifier: Apache-2.0
 -- `state_tokens::abort` meets its contract: each return is an end of the rule. Assumes nothing.
 use mathlib.Core.Path.{sym, _∙_}
 use native.Mathlib.Omega.{arith}

@@ -1,3 +1,4 @@
+-- SPDX-License-Identifier: Apache-2.0
 -- `streams::read_block` meets its contract: what was read so far is within the block. Assumes nothing.
 use Prim.Native.Nat.{_≤_}
 use mathlib.Core.Path.{_≡_}

@@ -1,3 +1,4 @@
+-- SPDX-License-Identifier: Apache-2.0
 -- `streams::write_out` meets its contract. Assumes nothing.
 use native.Mathlib.Omega.{arith}
 use borrow.Author.Needs.{needs}

@@ -1,3 +1,4 @@
+-- SPDX-License-Identifier: Apache-2.0
 -- `trace::pin_words` meets its contract. The invariant: so many pins stand in front of zeros. Assumes nothing.
 use Prim.Native.Nat.{_+_}
 use mathlib.Core.Path.{_≡_, refl, _∙_, ap}

@@ -1,3 +1,4 @@
+-- SPDX-License-Identifier: Apache-2.0
 -- `trace::put_but_last` meets its contract. Assumes nothing.
 use mathlib.Core.Path.{refl}
 use native.Mathlib.Omega.{arith}

@@ -1,3 +1,4 @@
+-- SPDX-License-Identifier: Apache-2.0
 -- `trace::put_record` meets its contract. Assumes nothing.
 use mathlib.Core.Path.{ap}
 use borrow.Author.Needs.{needs}

@@ -1,3 +1,4 @@
+-- SPDX-License-Identifier: Apache-2.0
 -- `trace::run` meets its contract. The invariant: the place is within the block, whose length is that of a slice. Assumes nothing.
 use Prim.Native.Nat.{_-_, _^_, _≤_, _<_}
 use native.Mathlib.Omega.{arith}

@@ -1,3 +1,4 @@
+// SPDX-License-Identifier: Apache-2.0
 //! The private fields of the original `Index`, read and made.
 
 use super::Index;

@@ -1,3 +1,4 @@
+// SPDX-License-Identifier: Apache-2.0
 //! The private fields of the original `State` and `LoadToken`, read and made.
 
 use super::index::Index;

@@ -1,3 +1,4 @@
+-- SPDX-License-Identifier: Apache-2.0
 -- `EvictionHeap::oldest` meets its contract: each return has the tests that led there. Assumes nothing.
 use borrow.Author.Needs.{needs}
 use Rattle.basics.proofs.Tests.{tests}

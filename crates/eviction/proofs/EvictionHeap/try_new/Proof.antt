@@ -1,3 +1,4 @@
+-- SPDX-License-Identifier: Apache-2.0
 -- `EvictionHeap::try_new` meets its contract: the check of the capacity decides, as in the rule. Assumes nothing.
 use Prim.Native.Nat.{ℕ, _-_}
 use mathlib.Core.Path.{_≡_, sym, _∙_, ap}

@@ -1,3 +1,4 @@
+-- SPDX-License-Identifier: Apache-2.0
 -- `EvictionHeap::victim` meets its contract: the loop searches from the place i in the places left. Assumes nothing.
 use mathlib.Core.Path.{_≡_}
 use borrow.Author.Needs.{needs}

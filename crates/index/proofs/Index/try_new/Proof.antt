@@ -1,3 +1,4 @@
+-- SPDX-License-Identifier: Apache-2.0
 -- `Index::try_new` meets its contract. Assumes nothing.
 use Prim.Native.Nat.{ℕ, _<_, _≤_}
 use native.Mathlib.Omega.{arith}

@@ -1,3 +1,4 @@
+-- SPDX-License-Identifier: Apache-2.0
 -- `CacheKey::bucket` meets its contract: two sums that wrap are one sum that wraps. Assumes nothing.
 use Prim.Native.Nat.{ℕ, _+_, _%_, _^_}
 use mathlib.Core.Path.{_≡_, _∙_, ap}

@@ -1,3 +1,4 @@
+-- SPDX-License-Identifier: Apache-2.0
 -- `CacheKey::same` meets its contract: each return has the tests that led there. Assumes nothing.
 use Rattle.basics.proofs.Tests.{tests}
 use Rattle.key.specs.Key.{sameKey}

@@ -1,3 +1,4 @@
+-- SPDX-License-Identifier: Apache-2.0
 -- `maintenance_resize::pins::power_over` meets its contract. Assumes nothing.
 use borrow.Author.Needs.{needs}
 use Rattle.maintenance_resize.proofs.Cases.{power-one, power-half}

@@ -1,3 +1,4 @@
+-- SPDX-License-Identifier: Apache-2.0
 -- `maintenance_resize::remake::inherit` meets its contract. Assumes nothing.
 use mathlib.Core.Path.{refl}
 use Rattle.maintenance_resize.specs.Move.{inherit}

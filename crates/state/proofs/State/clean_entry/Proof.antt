@@ -1,3 +1,4 @@
+-- SPDX-License-Identifier: Apache-2.0
 -- `State::clean_entry` meets its contract. Assumes nothing.
 use Rattle.basics.proofs.Tests.{tests, yes, no}
 use Rattle.state.proofs.Cases.{sound-sizes}

@@ -1,3 +1,4 @@
+-- SPDX-License-Identifier: Apache-2.0
 -- `State::try_new` meets its contract: the ends of the rule, from what the index and the heap told. Assumes nothing.
 use Rattle.state.proofs.Cases.{new-refused, new-made}
 use borrow.Author.Needs.{needs}

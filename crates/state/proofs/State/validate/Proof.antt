@@ -1,3 +1,4 @@
+-- SPDX-License-Identifier: Apache-2.0
 -- `State::validate` meets its contract. Assumes nothing.
 use Rattle.state.proofs.Cases.{sound-sizes, outstanding-out, outstanding-in}
 use Rattle.basics.proofs.Tests.{tests, yes, no}
