@@ -1,4 +1,3 @@
-// SPDX-FileCopyrightText: 2026 roolrz
 // SPDX-License-Identifier: Apache-2.0
 
 // Theorems only: what resize and reclaim do to a valid table, slot by slot, and that neither stops.

@@ -1,4 +1,3 @@
-// SPDX-FileCopyrightText: 2026 roolrz
 // SPDX-License-Identifier: Apache-2.0
 
 // Theorems only: the invariants of the eviction heap and of the index, which the Rust's `assert_valid` tests, and that of the table over them;

@@ -1,4 +1,3 @@
-// SPDX-FileCopyrightText: 2026 roolrz
 // SPDX-License-Identifier: Apache-2.0
 
 // What stands between two records of a run sheet.
