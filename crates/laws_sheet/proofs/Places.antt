@@ -26,7 +26,8 @@ use Rattle.sheet_standing.specs.declared.Standing.{Standing}
 use Rattle.sheet_steps.specs.declared.Stepped.{Stepped}
 use Rattle.sheet_steps.specs.Standing.{withState, placeAt}
 use Rattle.sheet_steps.specs.Steps.{sayNew, stepNew, sayAccess, accessOf, stepAccess, sayDone, sayToken, stepPublish, stepAbort, sayFound, stepLookup}
-use Rattle.sheet_steps.specs.Steps.{sayRemoved, stepRemove, sayPinned, stepPin, saySize, resizeOf, stepResize, sayCount, reclaimOf, stepReclaim, stepCode, stepRecord}
+use Rattle.sheet_steps.specs.Steps.{sayRemoved, stepRemove, sayPinned, stepPin, saySize, resizeOf, stepResize}
+use Rattle.sheet_steps.specs.Steps.{sayCount, reclaimOf, stepReclaim, stepCode, stepRecord}
 use Rattle.laws_sheet.specs.Places.{RefusedNew, tokenOf, putIn, AccessPuts, TokensStay, EmptyPlace}
 
 -- ── 1 ──

@@ -14,11 +14,21 @@ returns c = rw (moved-back _ (removeIndex _ _ _ _) (c .before .before .before .r
 
 returns-2 : tie.Need-returns-2
 unfolding vacate
-returns-2 c = rw (moved-back _ (removeIndex _ _ _ _) (c .before .before .before .before .before .before .before .remove .ensures), c .before .before .before .before .before .enum-told .given .1, moved-back _ (releaseIndex _ _ _) (c .before .before .before .release .ensures), c .before .last .given .1)
+returns-2 c =
+    rw (
+      moved-back _ (removeIndex _ _ _ _) (c .before .before .before .before .before .before .before .remove .ensures),
+      c .before .before .before .before .before .enum-told .given .1,
+      moved-back _ (releaseIndex _ _ _) (c .before .before .before .release .ensures),
+      c .before .last .given .1,
+    )
 
 returns-3 : tie.Need-returns-3
 unfolding vacate
-returns-3 c = rw (moved-back _ (removeIndex _ _ _ _) (c .before .before .before .before .before .before .remove .ensures), c .before .before .before .before .enum-told .given .1) (moved-done _ _ (moved-back _ (releaseIndex _ _ _) (c .before .before .release .ensures)) (c .enum-told2 .given .1))
+returns-3 c =
+    rw (
+      moved-back _ (removeIndex _ _ _ _) (c .before .before .before .before .before .before .remove .ensures),
+      c .before .before .before .before .enum-told .given .1,
+    ) (moved-done _ _ (moved-back _ (releaseIndex _ _ _) (c .before .before .release .ensures)) (c .enum-told2 .given .1))
 
 pub vacate-spec : {M : Type 1} → statement M
 vacate-spec =

@@ -10,7 +10,19 @@ part-put-end : tie.Need-part-put-end
 part-put-end c = omega arith
 
 returns : tie.Need-returns
-returns c = (rw (c .put .ensures .0, all-from (c .before .before .before .before .decimal .result .bytes) (c .before .before .before .before .decimal .result .from) 96 (c .before .before .before .before .decimal .ensures .1 .2), c .before .before .before .before .decimal .ensures .0), omega (arith, part-length (c .before .before .before .before .decimal .result .bytes) (c .before .before .before .before .decimal .result .from) 96 (c .before .before .before .before .decimal .ensures .1 .2)))
+returns c = (
+  rw (
+    c .put .ensures .0,
+    all-from (c .before .before .before .before .decimal .result .bytes) (c .before .before .before .before .decimal .result .from) 96
+        (c .before .before .before .before .decimal .ensures .1 .2),
+    c .before .before .before .before .decimal .ensures .0,
+  ),
+  omega (
+    arith,
+    part-length (c .before .before .before .before .decimal .result .bytes) (c .before .before .before .before .decimal .result .from) 96
+        (c .before .before .before .before .decimal .ensures .1 .2),
+  ),
+)
 
 pub put-number-spec : {M : Type 1} → statement M
 put-number-spec =

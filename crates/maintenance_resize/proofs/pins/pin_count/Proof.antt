@@ -1,5 +1,5 @@
 -- SPDX-License-Identifier: Apache-2.0
--- `maintenance_resize::pins::pin_count` meets its contract: the loop has counted the pins before place i. Assumes nothing.
+-- `pins::pin_count` meets its contract: the loop has counted the pins before place i. Assumes nothing.
 use Prim.Native.Nat.{_+_, _-_, _≤_}
 use mathlib.Core.Path.{_≡_}
 use mathlib.Core.Logic.{⊎-elim}

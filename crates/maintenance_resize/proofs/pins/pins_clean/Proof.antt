@@ -1,5 +1,5 @@
 -- SPDX-License-Identifier: Apache-2.0
--- `maintenance_resize::pins::pins_clean` meets its contract: what is left to test is from the slot on. Assumes nothing.
+-- `pins::pins_clean` meets its contract: what is left to test is from the slot on. Assumes nothing.
 use Prim.Native.Nat.{_-_, _≤_}
 use mathlib.Core.Path.{_≡_}
 use native.Mathlib.Omega.{arith}

@@ -1,5 +1,5 @@
 -- SPDX-License-Identifier: Apache-2.0
--- `maintenance_resize::pins::power_over` meets its contract. Assumes nothing.
+-- `pins::power_over` meets its contract. Assumes nothing.
 use borrow.Author.Needs.{needs}
 use Rattle.maintenance_resize.proofs.Cases.{power-one, power-half}
 use Rattle.maintenance_resize.proofs.pins.power_over.Statement.{statement}

@@ -1,5 +1,5 @@
 -- SPDX-License-Identifier: Apache-2.0
--- `maintenance_resize::pins::raised` meets its contract. Assumes nothing.
+-- `pins::raised` meets its contract. Assumes nothing.
 use native.Mathlib.Omega.{arith}
 use borrow.Author.Needs.{needs}
 use Rattle.maintenance_resize.proofs.Cases.{raised-up, raised-not}

@@ -1,5 +1,5 @@
 -- SPDX-License-Identifier: Apache-2.0
--- `maintenance_resize::remake::drop_oldest` meets its contract: what is left to do is in the rounds left, and the table passes its first test throughout. Assumes nothing.
+-- `remake::drop_oldest` meets its contract: what is left to do is in the rounds left, and the table passes its first test throughout. Assumes nothing.
 use Prim.Native.Nat.{ℕ, _-_}
 use mathlib.Core.Path.{_≡_, refl, sym, _∙_}
 use mathlib.Core.Bool.{true}

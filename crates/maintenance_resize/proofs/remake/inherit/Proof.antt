@@ -1,5 +1,5 @@
 -- SPDX-License-Identifier: Apache-2.0
--- `maintenance_resize::remake::inherit` meets its contract. Assumes nothing.
+-- `remake::inherit` meets its contract. Assumes nothing.
 use mathlib.Core.Path.{refl}
 use Rattle.maintenance_resize.specs.Move.{inherit}
 use Rattle.maintenance_resize.proofs.remake.inherit.Statement.{statement}

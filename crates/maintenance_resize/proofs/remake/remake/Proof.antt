@@ -1,5 +1,5 @@
 -- SPDX-License-Identifier: Apache-2.0
--- `maintenance_resize::remake::remake` meets its contract. Assumes nothing.
+-- `remake::remake` meets its contract. Assumes nothing.
 use mathlib.Core.Path.{_∙_}
 use borrow.Author.Needs.{needs}
 use Rattle.state.proofs.Cases.{sound-sizes}

@@ -1,5 +1,5 @@
 -- SPDX-License-Identifier: Apache-2.0
--- `maintenance_resize::remake::restore_rest` meets its contract: what is left to do is from the slot on. Assumes nothing.
+-- `remake::restore_rest` meets its contract: what is left to do is from the slot on. Assumes nothing.
 use Prim.Native.Nat.{ℕ, _-_}
 use mathlib.Core.Path.{_≡_}
 use mathlib.Core.List.{List}

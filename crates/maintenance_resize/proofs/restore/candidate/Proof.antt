@@ -1,5 +1,5 @@
 -- SPDX-License-Identifier: Apache-2.0
--- `maintenance_resize::restore::candidate` meets its contract: what is left to do is from the size on, in the rounds left. Assumes nothing.
+-- `restore::candidate` meets its contract: what is left to do is from the size on, in the rounds left. Assumes nothing.
 use Prim.Native.Nat.{_≤_, _<_}
 use mathlib.Core.Path.{_≡_, refl, sym, _∙_}
 use native.Mathlib.Omega.{arith}

@@ -1,5 +1,5 @@
 -- SPDX-License-Identifier: Apache-2.0
--- `maintenance_resize::restore::place` meets its contract. Assumes nothing.
+-- `restore::place` meets its contract. Assumes nothing.
 use borrow.Author.Needs.{needs}
 use Rattle.maintenance_resize.specs.Parts.{putInto, put}
 use Rattle.maintenance_resize.proofs.restore.place.Statement.{statement}

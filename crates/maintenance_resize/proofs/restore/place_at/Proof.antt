@@ -1,5 +1,5 @@
 -- SPDX-License-Identifier: Apache-2.0
--- `maintenance_resize::restore::place_at` meets its contract. Assumes nothing.
+-- `restore::place_at` meets its contract. Assumes nothing.
 use borrow.Author.Needs.{needs}
 use Rattle.index.specs.Chain.{insertIndex}
 use Rattle.index.specs.Free.{takeVacant}

@@ -1,5 +1,5 @@
 -- SPDX-License-Identifier: Apache-2.0
--- `maintenance_resize::restore::restore_pinned` meets its contract: what is left to restore is from the slot on. Assumes nothing.
+-- `restore::restore_pinned` meets its contract: what is left to restore is from the slot on. Assumes nothing.
 use Prim.Native.Nat.{_-_, _≤_}
 use mathlib.Core.Path.{_≡_}
 use native.Mathlib.Omega.{arith}
