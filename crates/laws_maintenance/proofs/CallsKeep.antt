@@ -8,7 +8,7 @@ use Rattle.basics.specs.Try.{Try, ok, refuse}
 use Rattle.basics.specs.Refusals.{STOP}
 use Rattle.state.specs.declared.State.{State}
 use Rattle.maintenance_resize.specs.Answers.{Resizing}
-use Rattle.maintenance_resize.specs.Pins.{raised}
+use Rattle.maintenance_restore.specs.Pins.{raised}
 use Rattle.maintenance_resize.specs.Resize.{resize}
 use Rattle.maintenance_reclaim.specs.Reclaim.{reclaim}
 use Rattle.laws_table.specs.Table.{Dated, Valid}

@@ -12,8 +12,8 @@ use Rattle.eviction.specs.Victim.{unpinned}
 use Rattle.state.specs.declared.State.{State}
 use Rattle.state.specs.Slots.{slotAt}
 use Rattle.state.specs.Fresh.{fresh}
-use Rattle.maintenance_resize.specs.Pins.{pinCount}
-use Rattle.maintenance_resize.specs.Restore.{restore, restorePinned, candidate}
+use Rattle.maintenance_restore.specs.Pins.{pinCount}
+use Rattle.maintenance_restore.specs.Restore.{restore, restorePinned, candidate}
 use Rattle.laws_maintenance.proofs.Powers.{power-large}
 use Rattle.laws_maintenance.proofs.PinBytes.{pin-most, forPins, pins-fit}
 use Rattle.laws_maintenance.proofs.CalmTables.{fresh-calm, fresh-capacity, fresh-none}

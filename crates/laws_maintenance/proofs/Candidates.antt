@@ -14,8 +14,8 @@ use Rattle.eviction.specs.Victim.{unpinned}
 use Rattle.state.specs.declared.State.{State}
 use Rattle.state.specs.Slots.{slotAt, isClean}
 use Rattle.state.specs.Fresh.{fresh}
-use Rattle.maintenance_resize.specs.Pins.{pinCount}
-use Rattle.maintenance_resize.specs.Restore.{restore, candidate}
+use Rattle.maintenance_restore.specs.Pins.{pinCount}
+use Rattle.maintenance_restore.specs.Restore.{restore, candidate}
 use Rattle.laws_table.specs.Table.{Absent}
 use Rattle.laws_maintenance.specs.Calm.{Calm, Present}
 use Rattle.laws_maintenance.specs.Drawn.{Drawn, Chokes}

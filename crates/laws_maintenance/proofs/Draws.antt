@@ -16,7 +16,7 @@ use Rattle.index.specs.Chain.{CHAIN}
 use Rattle.state.specs.declared.Slot.{Slot}
 use Rattle.state.specs.declared.State.{State}
 use Rattle.state.specs.Slots.{slotAt, vacantSlot, cleanSlot, isClean, occupied}
-use Rattle.maintenance_resize.specs.Restore.{restore}
+use Rattle.maintenance_restore.specs.Restore.{restore}
 use Rattle.laws_table.specs.Table.{Inv, Absent, Step}
 use Rattle.laws_table.proofs.SlotKinds.{clean-occupied}
 use Rattle.laws_table.proofs.StepReserve.{chainOf}

@@ -16,7 +16,7 @@ use Rattle.basics.proofs.Tests.{yes!, no!, is, and-left, and-right}
 use Rattle.eviction.specs.Victim.{unpinned}
 use Rattle.state.specs.declared.State.{State}
 use Rattle.state.specs.Slots.{slotAt, isClean}
-use Rattle.maintenance_resize.specs.Pins.{pinCount, pinsClean, raised}
+use Rattle.maintenance_restore.specs.Pins.{pinCount, pinsClean, raised}
 use Rattle.laws_maintenance.proofs.Powers.{power-over, power-pos, power-small}
 
 -- ── how many ──

@@ -15,8 +15,8 @@ use Rattle.index.specs.Chain.{CHAIN}
 use Rattle.eviction.specs.Victim.{unpinned}
 use Rattle.state.specs.declared.State.{State}
 use Rattle.state.specs.Slots.{slotAt}
-use Rattle.maintenance_resize.specs.Pins.{pinCount}
-use Rattle.maintenance_resize.specs.Restore.{restore, restorePinned}
+use Rattle.maintenance_restore.specs.Pins.{pinCount}
+use Rattle.maintenance_restore.specs.Restore.{restore, restorePinned}
 use Rattle.laws_table.specs.Table.{Inv}
 use Rattle.laws_table.proofs.TableParts.{slots-sum}
 use Rattle.laws_table.proofs.StepReserve.{chainOf}

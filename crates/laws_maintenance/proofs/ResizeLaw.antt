@@ -18,8 +18,8 @@ use Rattle.eviction.specs.Victim.{unpinned}
 use Rattle.state.specs.declared.State.{State}
 use Rattle.state.specs.Slots.{slotAt, isClean}
 use Rattle.maintenance_resize.specs.Answers.{Resizing}
-use Rattle.maintenance_resize.specs.Pins.{pinsClean, raised}
-use Rattle.maintenance_resize.specs.Restore.{candidate}
+use Rattle.maintenance_restore.specs.Pins.{pinsClean, raised}
+use Rattle.maintenance_restore.specs.Restore.{candidate}
 use Rattle.maintenance_resize.specs.Resize.{unlessRefused, freshStart, remakeOrBusy, resizeTo, resizeSteps, resize}
 use Rattle.laws_table.specs.Table.{Inv, Distinct, Absent}
 use Rattle.laws_table.proofs.TableParts.{sound-inv}

@@ -21,7 +21,7 @@ use Rattle.state.specs.declared.Slot.{Slot}
 use Rattle.state.specs.declared.State.{State}
 use Rattle.state.specs.Slots.{slotAt, cleanSlot, occupied}
 use Rattle.state.specs.Parts.{withSlot, withIndex, withHeap, withHeld}
-use Rattle.maintenance_resize.specs.Restore.{restoreInto, restore}
+use Rattle.maintenance_restore.specs.Restore.{restoreInto, restore}
 use Rattle.laws_table.specs.Table.{bucketFor, bucketIn, lastIn, Inv, Step}
 use Rattle.laws_table.proofs.Sifts.{Sifted}
 use Rattle.laws_table.proofs.HeapInsert.{insert-heap}

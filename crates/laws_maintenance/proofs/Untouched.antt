@@ -16,8 +16,8 @@ use Rattle.basics.proofs.Tests.{is, yes!, no! }
 use Rattle.state.specs.declared.State.{State}
 use Rattle.state.specs.Fresh.{sound}
 use Rattle.maintenance_resize.specs.Answers.{resized, Resizing}
-use Rattle.maintenance_resize.specs.Pins.{pinsClean, raised}
-use Rattle.maintenance_resize.specs.Restore.{candidate}
+use Rattle.maintenance_restore.specs.Pins.{pinsClean, raised}
+use Rattle.maintenance_restore.specs.Restore.{candidate}
 use Rattle.maintenance_resize.specs.Move.{Moving, movingOf, leavePinned, dropOldest, restoreRest, moveRest, inherit, remake}
 use Rattle.maintenance_resize.specs.Resize.{unlessRefused, freshStart, remakeOrBusy, resizeTo, resizeSteps, resize}
 use Rattle.laws_maintenance.specs.Resize.{Untouched, ResizeTouches}

@@ -11,7 +11,7 @@ use Rattle.basics.specs.Numbers.{NONE}
 use Rattle.state.specs.declared.State.{State}
 use Rattle.state.specs.Fresh.{fresh}
 use Rattle.maintenance_resize.specs.Answers.{Size, unchanged, busyNow, resized, Resizing}
-use Rattle.maintenance_resize.specs.Pins.{raised}
+use Rattle.maintenance_restore.specs.Pins.{raised}
 use Rattle.maintenance_resize.specs.Resize.{listed, resize}
 use Rattle.laws_table.specs.Table.{Valid}
 use Rattle.laws_maintenance.specs.Drawn.{Chokes}

@@ -15,7 +15,7 @@ use Rattle.eviction.specs.Victim.{unpinned}
 use Rattle.state.specs.declared.Slot.{Slot}
 use Rattle.state.specs.declared.State.{State}
 use Rattle.state.specs.Slots.{slotAt, vacantSlot, isClean}
-use Rattle.maintenance_resize.specs.Pins.{pinsClean}
+use Rattle.maintenance_restore.specs.Pins.{pinsClean}
 use Rattle.laws_table.specs.Table.{Valid, Step}
 use Rattle.laws_maintenance.proofs.Lists.{all-same}
 use Rattle.sheet_standing.specs.declared.Standing.{Standing}

@@ -20,8 +20,8 @@ use Rattle.state.specs.Slots.{slotAt, isClean}
 use Rattle.state.specs.Fresh.{empty, fresh}
 use Rattle.state.specs.Answers.{After}
 use Rattle.maintenance_resize.specs.Answers.{Size, unchanged, busyNow, resized, Resizing}
-use Rattle.maintenance_resize.specs.Pins.{pinsClean, raised}
-use Rattle.maintenance_resize.specs.Restore.{candidate}
+use Rattle.maintenance_restore.specs.Pins.{pinsClean, raised}
+use Rattle.maintenance_restore.specs.Restore.{candidate}
 use Rattle.maintenance_resize.specs.Resize.{unlessRefused, freshStart, remakeOrBusy, resizeTo, resizeSteps, resize}
 use Rattle.laws_table.proofs.StepParts.{clean-pos}
 use Rattle.laws_table.proofs.TableParts.{sound-inv}

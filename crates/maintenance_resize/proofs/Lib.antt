@@ -1,4 +1,3 @@
 -- SPDX-License-Identifier: Apache-2.0
-pub mod Cases
 pub mod Moves
 pub mod Resizes

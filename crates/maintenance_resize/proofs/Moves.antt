@@ -1,8 +1,8 @@
 -- SPDX-License-Identifier: Apache-2.0
 -- The loops of resize one slot on and at their ends, and what each step does with a slot. Assumes nothing.
-use Prim.Native.Nat.{ℕ, zero, suc, _+_, _-_, _*_, _/_, _≤_, _<_}
+use Prim.Native.Nat.{ℕ, zero, suc, _+_, _-_, _≤_, _<_}
 use mathlib.Core.Path.{_≡_, refl, _∙_, ap}
-use mathlib.Core.Bool.{Bool, true, false, _&&_}
+use mathlib.Core.Bool.{Bool, true, false}
 use mathlib.Core.List.{List, _∷_}
 use mathlib.Core.Option.{Option, none, some}
 use native.Mathlib.Omega.{arith}
@@ -12,24 +12,20 @@ use borrow.Author.Tests.{leb-false, lt-ltb, le-ltb, le-leb, lt-leb, eq-eqb, ne-e
 use Rattle.basics.specs.Try.{Try, ok, refuse, _>>=_, _>>_, if_then_else_, need}
 use Rattle.basics.specs.Refusals.{STOP}
 use Rattle.basics.specs.Numbers.{NONE}
-use Rattle.basics.specs.Answers.{Fine}
 use Rattle.basics.specs.Lists.{eachSlot}
 use Rattle.basics.proofs.Tests.{yes!, no!, is, one-less, no-ltb, some-ltb, met}
-use Rattle.basics.proofs.Capacities.{capacity-allowed}
 use Rattle.key.specs.declared.CacheKey.{CacheKey}
 use Rattle.index.specs.Chain.{CHAIN, headOf, nextOf}
 use Rattle.eviction.specs.Entries.{at}
 use Rattle.state.specs.declared.State.{State}
-use Rattle.state.specs.declared.Finished.{Finished}
 use Rattle.state.specs.Slots.{slotAt, cleanWith}
-use Rattle.state.specs.Answers.{After, finishedAfter}
-use Rattle.state.specs.Fresh.{sound, fresh, new}
+use Rattle.state.specs.Fresh.{sound}
 use Rattle.state.specs.Remove.{detachClean, removeClean}
 use Rattle.state.specs.Reads.{peekFrom, peekClean}
 use Rattle.state.proofs.Cases.{sound-sizes}
-use Rattle.maintenance_resize.specs.Restore.{restore, restorePinned, orElse, candidate}
+use Rattle.maintenance_restore.specs.Restore.{restore}
 use Rattle.maintenance_resize.specs.Move.{Moving, movingOf, leaveTo, leavePinned, dropOldest, keepNew, restoreUnless, restoreRest, moveOrRemove, moveRest}
-use Rattle.maintenance_resize.proofs.Cases.{left-suc}
+use Rattle.maintenance_restore.proofs.Cases.{left-suc}
 
 -- ---- lists
 
@@ -203,39 +199,3 @@ module _ (n : ℕ) (old made : State) (list : List ℕ) {room : ℕ} (l : 0 < n)
       pub drop-on : {u : State} → removeClean old (at (old .eviction) 0 .slot) ≡ ok u
           → dropOldest n (movingOf old made list) ≡ dropOldest (n - 1) (movingOf u made list)
       drop-on r = drop-step n old made list l e ∙ rw (lt-leb (old .clean) room h, some-ltb (old .eviction .len) z, r)
-
--- ---- the capacity that takes the pinned keys
-
-pub candidate-end : (n : ℕ) (old : State) (pins : List ℕ) (shrinking : Bool) (c : ℕ) → n ≤ 0 → candidate n old pins shrinking c ≡ ok none
-unfolding candidate
-candidate-end zero old pins shrinking c l = refl
-candidate-end (suc n) old pins shrinking c l = absurd (omega arith)
-
-candidate-step : (n : ℕ) (old : State) (pins : List ℕ) (shrinking : Bool) (c : ℕ) → 0 < n
-    → candidate n old pins shrinking c
-    ≡ (restorePinned (old .capacity) old pins 0 (fresh c) >>= λ fits. orElse fits (if shrinking && ltb c (old .capacity / 2) then candidate (n - 1) old pins shrinking (c * 2) else ok none))
-unfolding candidate
-candidate-step zero old pins shrinking c l = absurd (omega arith)
-candidate-step (suc n) old pins shrinking c l = rw (one-less n)
-
-module _ (n : ℕ) (old : State) (pins : List ℕ) (shrinking : Bool) (c : ℕ) (l : 0 < n) where
-  pub candidate-fits : {t : State} → restorePinned (old .capacity) old pins 0 (fresh c) ≡ ok (some t) → candidate n old pins shrinking c ≡ ok (some t)
-  candidate-fits p = candidate-step n old pins shrinking c l ∙ rw p
-
-  pub candidate-stops : {m : ℕ} → restorePinned (old .capacity) old pins 0 (fresh c) ≡ refuse m → candidate n old pins shrinking c ≡ refuse m
-  candidate-stops p = candidate-step n old pins shrinking c l ∙ rw p
-
-  module _ (p : restorePinned (old .capacity) old pins 0 (fresh c) ≡ ok none) where
-    pub candidate-grows : shrinking ≡ false → candidate n old pins shrinking c ≡ ok none
-    candidate-grows s = candidate-step n old pins shrinking c l ∙ rw (p, s)
-
-    pub candidate-half : shrinking ≡ true → old .capacity / 2 ≤ c → candidate n old pins shrinking c ≡ ok none
-    candidate-half s h = candidate-step n old pins shrinking c l ∙ rw (p, s, le-ltb c (old .capacity / 2) h)
-
-    pub candidate-twice : shrinking ≡ true → c < old .capacity / 2 → candidate n old pins shrinking c ≡ candidate (n - 1) old pins shrinking (c * 2)
-    candidate-twice s h = candidate-step n old pins shrinking c l ∙ rw (p, s, lt-ltb c (old .capacity / 2) h)
-
--- a capacity that a table may have gives a fresh one
-pub made-fresh : (r : Finished) (c : ℕ) → 0 < c → c ≤ 256 → finishedAfter r ≡ new c → r .state ≡ fresh c
-unfolding new
-made-fresh r c p s e = ap (λ (f : After Fine). f .table) (rw (capacity-allowed c p s) at e)

@@ -22,8 +22,8 @@ use Rattle.state.specs.declared.State.{State}
 use Rattle.state.specs.declared.Finished.{Finished}
 use Rattle.state.specs.Fresh.{sound, fresh}
 use Rattle.maintenance_resize.specs.Answers.{unchanged, busyNow, resized, Resizing}
-use Rattle.maintenance_resize.specs.Pins.{pinsClean, raised}
-use Rattle.maintenance_resize.specs.Restore.{candidate}
+use Rattle.maintenance_restore.specs.Pins.{pinsClean, raised}
+use Rattle.maintenance_restore.specs.Restore.{candidate}
 use Rattle.maintenance_resize.specs.Move.{movingOf, leavePinned, dropOldest, restoreRest, moveRest, inherit, remake}
 use Rattle.maintenance_resize.specs.Resize.{listed, unlessRefused, freshStart, remakeOrBusy, resizeTo, resizeSteps, resize}
 use Rattle.maintenance_resize.proofs.Moves.{take-same}

@@ -18,7 +18,7 @@ use Rattle.state.specs.Parts.{withNumbers, withCounters}
 use Rattle.state.specs.Remove.{detachClean, removeClean}
 use Rattle.state.specs.Reads.{peekClean}
 use Rattle.maintenance_resize.specs.Answers.{resized, Resizing}
-use Rattle.maintenance_resize.specs.Restore.{restore}
+use Rattle.maintenance_restore.specs.Restore.{restore}
 
 -- the two tables, and the lent list as it will be
 pub record Moving : Type 0 where

@@ -13,8 +13,8 @@ use Rattle.state.specs.declared.State.{State}
 use Rattle.basics.specs.Capacity.{needCapacity}
 use Rattle.state.specs.Fresh.{fresh, sound}
 use Rattle.maintenance_resize.specs.Answers.{Size, unchanged, busyNow, resized, Resizing}
-use Rattle.maintenance_resize.specs.Pins.{pinsClean, raised}
-use Rattle.maintenance_resize.specs.Restore.{candidate}
+use Rattle.maintenance_restore.specs.Pins.{pinsClean, raised}
+use Rattle.maintenance_restore.specs.Restore.{candidate}
 use Rattle.maintenance_resize.specs.Move.{remake}
 
 -- the table, the answer and the list

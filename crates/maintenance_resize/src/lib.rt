@@ -13,12 +13,10 @@ ghost use Rattle.state.specs.Fresh.{sound};
 ghost use Rattle.maintenance_resize.specs.Answers.{maintainedAfter};
 ghost use Rattle.maintenance_resize.specs.Resize.{unlessRefused, resizeTo, resize as resizeRule};
 
-mod pins;
 mod remake;
-mod restore;
 
 use basics::Done;
-use restore::Fit;
+use maintenance_restore::restore::Fit;
 use state::State;
 
 // The answer of resize; `Resized` has the new capacity.
@@ -80,7 +78,7 @@ fn resize_to(t: State, pins: &[u8], list: &mut [u16], capacity: usize) -> Mainta
         };
     }
     let shrinking = capacity < t.capacity;
-    let chosen = restore::candidate(t, pins, shrinking, capacity);
+    let chosen = maintenance_restore::restore::candidate(t, pins, shrinking, capacity);
     let fit = chosen.answer;
     match fit {
         Fit::Refused(why) => Maintained {
@@ -158,12 +156,12 @@ pub fn resize(t: State, asked: usize, pins: &[u8], list: &mut [u16]) -> Maintain
             answer: Maintenance::Busy,
         };
     }
-    if !pins::pins_clean(t, pins) {
+    if !maintenance_restore::pins::pins_clean(t, pins) {
         return Maintained {
             state: t,
             answer: Maintenance::Refused(basics::UNCLEAN),
         };
     }
-    let capacity = pins::raised(asked, pins);
+    let capacity = maintenance_restore::pins::raised(asked, pins);
     resize_to(t, pins, list, capacity)
 }

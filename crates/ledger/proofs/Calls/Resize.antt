@@ -21,7 +21,7 @@ use Rattle.state.specs.declared.State.{State}
 use Rattle.state.specs.Slots.{slotAt, isClean, occupied}
 use Rattle.state.specs.Fresh.{fresh}
 use Rattle.maintenance_resize.specs.Answers.{resized, Resizing}
-use Rattle.maintenance_resize.specs.Pins.{raised}
+use Rattle.maintenance_restore.specs.Pins.{raised}
 use Rattle.maintenance_resize.specs.Resize as rules
 use Rattle.laws_table.proofs.SlotKinds.{clean-occupied}
 use Rattle.laws_maintenance.specs.Remade.{kept!, lost!, Remade}

@@ -6,8 +6,7 @@ use borrow.Author.Needs.{needs}
 use Rattle.basics.proofs.Tests.{flag}
 use Rattle.state.proofs.Cases.{sound-sizes}
 use Rattle.maintenance_resize.specs.Resize.{unlessRefused}
-use Rattle.maintenance_resize.proofs.Cases.{restored-told}
-use Rattle.maintenance_resize.proofs.Moves.{made-fresh}
+use Rattle.maintenance_restore.proofs.Cases.{restored-told, made-fresh}
 use Rattle.maintenance_resize.proofs.Resizes.{remade-told, to-unchanged, to-stops, to-busy, to-remake, fresh-listed, made-listed}
 use Rattle.maintenance_resize.proofs.resize_to.Statement.{statement}
 use Rattle.maintenance_resize.proofs.resize_to.Tie as tie

@@ -12,7 +12,7 @@ use Rattle.basics.specs.Lists.{eachSlot}
 use Rattle.state.specs.Fresh.{sound}
 use Rattle.state.proofs.Cases.{sound-sizes, found-told}
 use Rattle.maintenance_resize.specs.Move.{movingOf, leavePinned}
-use Rattle.maintenance_resize.proofs.Cases.{all-left}
+use Rattle.maintenance_restore.proofs.Cases.{all-left}
 use Rattle.state_remove.proofs.Kept.{detach-keeps}
 use Rattle.state_remove.proofs.Told.{detach-told}
 use Rattle.maintenance_resize.proofs.Moves.{take-same, each-end, each-on, each-stops, peek-low, leave-unclean, leave-refused, leave-absent, leave-stops, leave-left}

@@ -11,7 +11,7 @@ use Rattle.basics.specs.Lists.{eachSlot}
 use Rattle.state.specs.Fresh.{sound}
 use Rattle.state.proofs.Cases.{sound-sizes, found-told}
 use Rattle.maintenance_resize.specs.Move.{movingOf, moveRest}
-use Rattle.maintenance_resize.proofs.Cases.{all-left}
+use Rattle.maintenance_restore.proofs.Cases.{all-left}
 use Rattle.state_remove.proofs.Kept.{remove-keeps}
 use Rattle.state_remove.proofs.Told.{remove-told}
 use Rattle.maintenance_resize.proofs.Moves.{each-end, each-on, each-stops, peek-low, move-unclean, move-refused, move-stops, move-removed, move-moved}

@@ -7,7 +7,7 @@ use borrow.Author.Needs.{needs}
 use Rattle.basics.specs.Lists.{eachSlot}
 use Rattle.state.proofs.Cases.{found-told}
 use Rattle.maintenance_resize.specs.Move.{movingOf, restoreRest}
-use Rattle.maintenance_resize.proofs.Cases.{all-left, restored-told}
+use Rattle.maintenance_restore.proofs.Cases.{all-left, restored-told}
 use Rattle.maintenance_resize.proofs.Moves.{each-end, each-on, each-stops, rest-unclean, rest-refused, rest-stops, rest-full, rest-restored, rest-there}
 use Rattle.maintenance_resize.proofs.remake.restore_rest.Statement.{statement}
 use Rattle.maintenance_resize.proofs.remake.restore_rest.Tie as tie

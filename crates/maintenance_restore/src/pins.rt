@@ -7,7 +7,7 @@ ghost use mathlib.Core.Path.{_≡_};
 ghost use Prim.Native.Nat.{_≤_, max};
 ghost use lib.ListN.{length};
 ghost use Rattle.basics.specs.Numbers.{powerOver};
-ghost use Rattle.maintenance_resize.specs.Pins.{pinCount, pinsClean, raised as raisedTo};
+ghost use Rattle.maintenance_restore.specs.Pins.{pinCount, pinsClean, raised as raisedTo};
 use key::Count;
 use state::State;
 
@@ -41,7 +41,7 @@ fn power_over(n: usize) -> usize
 }
 
 // The asked capacity, raised to what the pinned slots need.
-pub(crate) fn raised(asked: usize, pins: &[u8]) -> usize
+pub fn raised(asked: usize, pins: &[u8]) -> usize
     requires { ⌜ (asked ≤ 256) × (length (now pins) ≤ 256) ⌝ }
     ensures { λ r. ⌜ r ≡ raisedTo asked (now (pins .entry)) ⌝ }
     ensures { λ r. ⌜ (asked ≤ r) × (r ≤ 256) ⌝ }
@@ -52,7 +52,7 @@ pub(crate) fn raised(asked: usize, pins: &[u8]) -> usize
 }
 
 // Whether every pinned slot is clean.
-pub(crate) fn pins_clean(t: State, pins: &[u8]) -> bool
+pub fn pins_clean(t: State, pins: &[u8]) -> bool
     requires { ⌜ (t .capacity ≤ 256) × (length (now pins) ≡ t .capacity) ⌝ }
     ensures { λ r. ⌜ r ≡ pinsClean (t .capacity) t (now (pins .entry)) 0 ⌝ }
 {

@@ -7,8 +7,8 @@ ghost use mathlib.Core.Path.{_≡_};
 ghost use Prim.Native.Nat.{_≤_, _<_};
 ghost use mathlib.Core.Option.{some};
 ghost use lib.ListN.{length};
-ghost use Rattle.maintenance_resize.specs.Parts.{put, putInto, topPut, placedAnswer, restoredAnswer};
-ghost use Rattle.maintenance_resize.specs.Restore.{restore as restoreRule, restorePinned, candidate as candidateRule};
+ghost use Rattle.maintenance_restore.specs.Parts.{put, putInto, topPut, placedAnswer, restoredAnswer};
+ghost use Rattle.maintenance_restore.specs.Restore.{restore as restoreRule, restorePinned, candidate as candidateRule};
 use basics::Done;
 use eviction::EvictionHeap;
 use index::Index;
@@ -19,16 +19,16 @@ use state::Slot;
 use state::State;
 
 // Whether a key was restored.
-pub(crate) enum Fit {
+pub enum Fit {
     Yes,
     No,
     Refused(u8),
 }
 
 // The table with the keys restored, where there was room.
-pub(crate) struct Restored {
-    pub(crate) state: State,
-    pub(crate) answer: Fit,
+pub struct Restored {
+    pub state: State,
+    pub answer: Fit,
 }
 
 // Index and heap with a key in a vacant slot, and that slot.
@@ -111,7 +111,7 @@ fn place(
 }
 
 // The Rust's `restore_clean`.
-pub(crate) fn restore(mut t: State, key: CacheKey, last_access: u64) -> Restored
+pub fn restore(mut t: State, key: CacheKey, last_access: u64) -> Restored
     ensures { λ r. ⌜ restoredAnswer r ≡ restoreRule t key «last_access» ⌝ }
 {
     let index = t.index;
@@ -190,7 +190,7 @@ fn restore_pinned(old: State, pins: &[u8], fresh: State) -> Restored
 
 // A table of this capacity with the pinned keys. Where a chain refuses one, while shrinking and below half the old capacity, one of
 // twice the capacity is tried.
-pub(crate) fn candidate(old: State, pins: &[u8], shrinking: bool, capacity: usize) -> Restored
+pub fn candidate(old: State, pins: &[u8], shrinking: bool, capacity: usize) -> Restored
     requires { ⌜ ((old .capacity ≤ 256) × (length (now pins) ≡ old .capacity)) × ((0 < capacity) × (capacity ≤ 256)) ⌝ }
     ensures { λ r. ⌜ restoredAnswer r ≡ candidateRule 9 old (now (pins .entry)) shrinking capacity ⌝ }
 {

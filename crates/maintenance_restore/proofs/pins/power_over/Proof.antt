@@ -1,9 +1,9 @@
 -- SPDX-License-Identifier: Apache-2.0
 -- `pins::power_over` meets its contract. Assumes nothing.
 use borrow.Author.Needs.{needs}
-use Rattle.maintenance_resize.proofs.Cases.{power-one, power-half}
-use Rattle.maintenance_resize.proofs.pins.power_over.Statement.{statement}
-use Rattle.maintenance_resize.proofs.pins.power_over.Tie as tie
+use Rattle.maintenance_restore.proofs.Cases.{power-one, power-half}
+use Rattle.maintenance_restore.proofs.pins.power_over.Statement.{statement}
+use Rattle.maintenance_restore.proofs.pins.power_over.Tie as tie
 
 returns : tie.Need-returns
 returns c = power-one _ (c .before .before .before .pre) (c .before .before .bucket-count .ensures) (c .enum-told .given .1)

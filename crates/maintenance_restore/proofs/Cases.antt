@@ -11,13 +11,13 @@ use native.Mathlib.Numerals.{add-one}
 use lib.Dec.{ltb, eqb}
 use lib.ListN.{length, getD, drop}
 use lib.Seq.{drop-cons, drop-nil}
-use borrow.Author.Tests.{ltb-true, eq-eqb, ne-eqb}
+use borrow.Author.Tests.{ltb-true, eq-eqb, ne-eqb, lt-ltb, le-ltb}
 use Rattle.basics.specs.Try.{Try, ok, refuse, _>>=_, _>>_, if_then_else_, need}
 use Rattle.basics.specs.Refusals.{INVALID, STOP}
 use Rattle.basics.specs.Numbers.{NONE, MAX, powerOver, doubled}
 use Rattle.basics.specs.Capacity.{needCapacity}
 use Rattle.basics.proofs.Capacities.{capacity-allowed}
-use Rattle.basics.proofs.Tests.{and-left, met, went, ok-same, some-same, bind-same}
+use Rattle.basics.proofs.Tests.{and-left, met, went, ok-same, some-same, bind-same, one-less}
 use Rattle.key.specs.declared.Count.{Count}
 use Rattle.key.specs.Answers.{countAnswer}
 use Rattle.key.specs.Bucket.{bucketCount, countFor}
@@ -34,12 +34,17 @@ use Rattle.eviction.specs.Victim.{unpinned}
 use Rattle.state.specs.declared.State.{State}
 use Rattle.state.specs.Slots.{slotAt, isClean, cleanSlot}
 use Rattle.state.specs.Parts.{withSlot, withIndex, withHeap, withHeld}
-use Rattle.maintenance_resize.specs.declared.restore.Fit.{Fit}
-use Rattle.maintenance_resize.specs.declared.restore.Restored.{Restored}
-use Rattle.maintenance_resize.specs.declared.restore.Placed.{Placed}
-use Rattle.maintenance_resize.specs.Pins.{pinCount, pinsClean, raised}
-use Rattle.maintenance_resize.specs.Restore.{restoreInto, restore, andOn, restorePinned}
-use Rattle.maintenance_resize.specs.Parts.{Put, putInto, put, topPut, placedAnswer, fitAnswer, restoredAnswer}
+use Rattle.maintenance_restore.specs.declared.restore.Fit.{Fit}
+use Rattle.maintenance_restore.specs.declared.restore.Restored.{Restored}
+use Rattle.maintenance_restore.specs.declared.restore.Placed.{Placed}
+use Rattle.maintenance_restore.specs.Pins.{pinCount, pinsClean, raised}
+use Rattle.maintenance_restore.specs.Restore.{restoreInto, restore, andOn, restorePinned, orElse, candidate}
+use Rattle.maintenance_restore.specs.Parts.{Put, putInto, put, topPut, placedAnswer, fitAnswer, restoredAnswer}
+use Rattle.basics.specs.Answers.{Fine}
+use Rattle.eviction.specs.Entries.{at}
+use Rattle.state.specs.declared.Finished.{Finished}
+use Rattle.state.specs.Answers.{After, finishedAfter}
+use Rattle.state.specs.Fresh.{fresh, new}
 
 -- ---- pins
 
@@ -202,3 +207,39 @@ restored-told r e q = sym e ∙ ap (fitAnswer (r .state)) q
 
 pub placed-told : (r : Placed) {a : Top} {x : Try (Option Put)} → placedAnswer r ≡ x → r .answer ≡ a → x ≡ topPut (r .index) (r .heap) a
 placed-told r e q = sym e ∙ ap (topPut (r .index) (r .heap)) q
+
+-- ---- the capacity that takes the pinned keys
+
+pub candidate-end : (n : ℕ) (old : State) (pins : List ℕ) (shrinking : Bool) (c : ℕ) → n ≤ 0 → candidate n old pins shrinking c ≡ ok none
+unfolding candidate
+candidate-end zero old pins shrinking c l = refl
+candidate-end (suc n) old pins shrinking c l = absurd (omega arith)
+
+candidate-step : (n : ℕ) (old : State) (pins : List ℕ) (shrinking : Bool) (c : ℕ) → 0 < n
+    → candidate n old pins shrinking c
+    ≡ (restorePinned (old .capacity) old pins 0 (fresh c) >>= λ fits. orElse fits (if shrinking && ltb c (old .capacity / 2) then candidate (n - 1) old pins shrinking (c * 2) else ok none))
+unfolding candidate
+candidate-step zero old pins shrinking c l = absurd (omega arith)
+candidate-step (suc n) old pins shrinking c l = rw (one-less n)
+
+module _ (n : ℕ) (old : State) (pins : List ℕ) (shrinking : Bool) (c : ℕ) (l : 0 < n) where
+  pub candidate-fits : {t : State} → restorePinned (old .capacity) old pins 0 (fresh c) ≡ ok (some t) → candidate n old pins shrinking c ≡ ok (some t)
+  candidate-fits p = candidate-step n old pins shrinking c l ∙ rw p
+
+  pub candidate-stops : {m : ℕ} → restorePinned (old .capacity) old pins 0 (fresh c) ≡ refuse m → candidate n old pins shrinking c ≡ refuse m
+  candidate-stops p = candidate-step n old pins shrinking c l ∙ rw p
+
+  module _ (p : restorePinned (old .capacity) old pins 0 (fresh c) ≡ ok none) where
+    pub candidate-grows : shrinking ≡ false → candidate n old pins shrinking c ≡ ok none
+    candidate-grows s = candidate-step n old pins shrinking c l ∙ rw (p, s)
+
+    pub candidate-half : shrinking ≡ true → old .capacity / 2 ≤ c → candidate n old pins shrinking c ≡ ok none
+    candidate-half s h = candidate-step n old pins shrinking c l ∙ rw (p, s, le-ltb c (old .capacity / 2) h)
+
+    pub candidate-twice : shrinking ≡ true → c < old .capacity / 2 → candidate n old pins shrinking c ≡ candidate (n - 1) old pins shrinking (c * 2)
+    candidate-twice s h = candidate-step n old pins shrinking c l ∙ rw (p, s, lt-ltb c (old .capacity / 2) h)
+
+-- a capacity that a table may have gives a fresh one
+pub made-fresh : (r : Finished) (c : ℕ) → 0 < c → c ≤ 256 → finishedAfter r ≡ new c → r .state ≡ fresh c
+unfolding new
+made-fresh r c p s e = ap (λ (f : After Fine). f .table) (rw (capacity-allowed c p s) at e)

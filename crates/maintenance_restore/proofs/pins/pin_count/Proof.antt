@@ -7,10 +7,10 @@ use native.Mathlib.Omega.{arith}
 use lib.ListN.{length, drop}
 use borrow.Author.Needs.{needs}
 use borrow.Author.Tests.{eq-eqb, ne-eqb}
-use Rattle.maintenance_resize.specs.Pins.{pinCount}
-use Rattle.maintenance_resize.proofs.Cases.{pins-step, pins-end}
-use Rattle.maintenance_resize.proofs.pins.pin_count.Statement.{statement}
-use Rattle.maintenance_resize.proofs.pins.pin_count.Tie as tie
+use Rattle.maintenance_restore.specs.Pins.{pinCount}
+use Rattle.maintenance_restore.proofs.Cases.{pins-step, pins-end}
+use Rattle.maintenance_restore.proofs.pins.pin_count.Statement.{statement}
+use Rattle.maintenance_restore.proofs.pins.pin_count.Tie as tie
 
 abbrev Inv-loop : tie.InvT-loop
 Inv-loop pins n₀ i₀ n i = (n + pinCount (drop i pins) ≡ pinCount pins) × ((n ≤ i) × (i ≤ length pins))

@@ -5,11 +5,10 @@ use mathlib.Core.Path.{_≡_, refl, sym, _∙_}
 use native.Mathlib.Omega.{arith}
 use borrow.Author.Needs.{needs}
 use borrow.Author.Tests.{not-true, not-false}
-use Rattle.maintenance_resize.specs.Restore.{candidate}
-use Rattle.maintenance_resize.proofs.Cases.{restored-told}
-use Rattle.maintenance_resize.proofs.Moves.{made-fresh, candidate-fits, candidate-stops, candidate-grows, candidate-half, candidate-twice, candidate-end}
-use Rattle.maintenance_resize.proofs.restore.candidate.Statement.{statement}
-use Rattle.maintenance_resize.proofs.restore.candidate.Tie as tie
+use Rattle.maintenance_restore.specs.Restore.{candidate}
+use Rattle.maintenance_restore.proofs.Cases.{restored-told, made-fresh, candidate-fits, candidate-stops, candidate-grows, candidate-half, candidate-twice, candidate-end}
+use Rattle.maintenance_restore.proofs.restore.candidate.Statement.{statement}
+use Rattle.maintenance_restore.proofs.restore.candidate.Tie as tie
 
 abbrev Inv-loop : tie.InvT-loop
 Inv-loop old pins shrinking capacity size₀ left₀ size left = (candidate left old pins shrinking size ≡ candidate 9 old pins shrinking size₀) × ((0 < size) × (size ≤ 256))

@@ -6,9 +6,9 @@ use Rattle.index.specs.Free.{takeVacant}
 use Rattle.index.proofs.Cases.{moved-back}
 use Rattle.eviction.specs.Heap.{insertHeap}
 use Rattle.eviction.proofs.Cases.{moved-back as heap-back}
-use Rattle.maintenance_resize.specs.Parts.{putInto}
-use Rattle.maintenance_resize.proofs.restore.place_at.Statement.{statement}
-use Rattle.maintenance_resize.proofs.restore.place_at.Tie as tie
+use Rattle.maintenance_restore.specs.Parts.{putInto}
+use Rattle.maintenance_restore.proofs.restore.place_at.Statement.{statement}
+use Rattle.maintenance_restore.proofs.restore.place_at.Tie as tie
 
 returns : tie.Need-returns
 unfolding putInto

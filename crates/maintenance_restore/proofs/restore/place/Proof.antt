@@ -1,9 +1,9 @@
 -- SPDX-License-Identifier: Apache-2.0
 -- `restore::place` meets its contract. Assumes nothing.
 use borrow.Author.Needs.{needs}
-use Rattle.maintenance_resize.specs.Parts.{putInto, put}
-use Rattle.maintenance_resize.proofs.restore.place.Statement.{statement}
-use Rattle.maintenance_resize.proofs.restore.place.Tie as tie
+use Rattle.maintenance_restore.specs.Parts.{putInto, put}
+use Rattle.maintenance_restore.proofs.restore.place.Statement.{statement}
+use Rattle.maintenance_restore.proofs.restore.place.Tie as tie
 
 returns : tie.Need-returns
 unfolding put

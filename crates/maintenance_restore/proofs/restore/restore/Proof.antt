@@ -3,9 +3,9 @@
 use mathlib.Core.Path.{sym}
 use native.Mathlib.Omega.{arith}
 use borrow.Author.Needs.{needs}
-use Rattle.maintenance_resize.proofs.Cases.{placed-told, restore-refused, restore-none, restore-uncounted, restore-done, put-low}
-use Rattle.maintenance_resize.proofs.restore.restore.Statement.{statement}
-use Rattle.maintenance_resize.proofs.restore.restore.Tie as tie
+use Rattle.maintenance_restore.proofs.Cases.{placed-told, restore-refused, restore-none, restore-uncounted, restore-done, put-low}
+use Rattle.maintenance_restore.proofs.restore.restore.Statement.{statement}
+use Rattle.maintenance_restore.proofs.restore.restore.Tie as tie
 
 returns : tie.Need-returns
 returns c = sym (restore-uncounted _ _ _ (placed-told _ (c .before .before .before .before .place .ensures) (c .before .before .top2 .given .1)) (c .if1 .taken))

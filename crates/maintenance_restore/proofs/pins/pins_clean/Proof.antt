@@ -5,10 +5,10 @@ use mathlib.Core.Path.{_≡_}
 use native.Mathlib.Omega.{arith}
 use borrow.Author.Needs.{needs}
 use borrow.Author.Tests.{eq-eqb, ne-eqb}
-use Rattle.maintenance_resize.specs.Pins.{pinsClean}
-use Rattle.maintenance_resize.proofs.Cases.{all-left, clean-step, clean-end}
-use Rattle.maintenance_resize.proofs.pins.pins_clean.Statement.{statement}
-use Rattle.maintenance_resize.proofs.pins.pins_clean.Tie as tie
+use Rattle.maintenance_restore.specs.Pins.{pinsClean}
+use Rattle.maintenance_restore.proofs.Cases.{all-left, clean-step, clean-end}
+use Rattle.maintenance_restore.proofs.pins.pins_clean.Statement.{statement}
+use Rattle.maintenance_restore.proofs.pins.pins_clean.Tie as tie
 
 abbrev Inv-loop : tie.InvT-loop
 Inv-loop pins t slot₀ slot = (pinsClean (t .capacity - slot) t pins slot ≡ pinsClean (t .capacity) t pins 0) × (slot ≤ t .capacity)
