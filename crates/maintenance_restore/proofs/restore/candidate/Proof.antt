@@ -6,7 +6,8 @@ use native.Mathlib.Omega.{arith}
 use borrow.Author.Needs.{needs}
 use borrow.Author.Tests.{not-true, not-false}
 use Rattle.maintenance_restore.specs.Restore.{candidate}
-use Rattle.maintenance_restore.proofs.Cases.{restored-told, made-fresh, candidate-fits, candidate-stops, candidate-grows, candidate-half, candidate-twice, candidate-end}
+use Rattle.maintenance_restore.proofs.Cases.{restored-told, made-fresh, candidate-fits, candidate-stops}
+use Rattle.maintenance_restore.proofs.Cases.{candidate-grows, candidate-half, candidate-twice, candidate-end}
 use Rattle.maintenance_restore.proofs.restore.candidate.Statement.{statement}
 use Rattle.maintenance_restore.proofs.restore.candidate.Tie as tie
 
