@@ -43,6 +43,11 @@ pub const UNGIVEN: u8 = 9;
 
 pub const STOP: u8 = 10;
 
+// Refusals of the gate (document 02, request 1): a count that is full, and one that is empty.
+pub const FULL: u8 = 11;
+
+pub const EMPTY: u8 = 12;
+
 pub enum Done {
     Done,
     Refused(u8),

@@ -23,11 +23,11 @@ use Rattle.laws_maintenance.proofs.ReclaimLaw.{reclaim-law}
 use Rattle.laws_maintenance.proofs.ReclaimedSlots.{removals-valid}
 
 -- ── answers ──
-abbrev number : {A : Type 0} → Try A → ℕ
+abbrev pub number : {A : Type 0} → Try A → ℕ
 number (ok a) = 0
 number (refuse n) = n
 
-runs : {A : Type 0} {r s : Try A} → r ≡ s → (number s ≡ STOP → ⊥) → r ≡ refuse STOP → ⊥
+pub runs : {A : Type 0} {r s : Try A} → r ≡ s → (number s ≡ STOP → ⊥) → r ≡ refuse STOP → ⊥
 runs e ne q = ne (ap number (sym e ∙ q))
 
 -- ── resize ──
@@ -40,7 +40,7 @@ dated t pins r m d x hx c =
 pub resize-keeps : (t : State) → Valid t → (asked : ℕ) (pins list : List ℕ) → ResizeKept (resize t asked pins list)
 resize-keeps t w asked pins list =
     elim (resize-law t (w .0) (w .1) asked pins list) [
-      | resizes.refused! n e ne ↦ rw e (record { valid = w; runs = runs refl ne })
+      | resizes.refused! n e ne n7 ↦ rw e (record { valid = w; runs = runs refl ne })
       | resizes.unchanged! e h ↦ rw e (record { valid = w; runs = runs refl (omega arith) })
       | resizes.busy! e h ↦ rw e (record { valid = w; runs = runs refl (omega arith) })
       | resizes.emptied! e q c pos lt ↦ rw e (record { valid = fresh-valid (raised asked pins) pos (omega (arith, w .0 .small)); runs = runs refl (omega arith) })

@@ -69,19 +69,19 @@ module _ (t : State) (v : Inv t) (dis : Distinct (t .slots) (t .capacity)) (aske
   unfolding resize resizeSteps needCapacity
   resize-law =
       rw (sound-inv t v) (elim (is (ltb 0 asked && leb asked (2 ^ 62))) [
-        | no! e ↦ rw e (refused! INVALID refl (omega arith))
+        | no! e ↦ rw e (refused! INVALID refl (omega arith) (omega arith))
         | yes! e ↦ elim (is (leb asked 256)) [
-          | no! f ↦ rw (e, f) (refused! ALLOCATION refl (omega arith))
+          | no! f ↦ rw (e, f) (refused! ALLOCATION refl (omega arith) (omega arith))
           | yes! f ↦ elim (is (eqb (length pins) (t .capacity))) [
-            | no! g ↦ rw (e, f, g) (refused! PINS refl (omega arith))
+            | no! g ↦ rw (e, f, g) (refused! PINS refl (omega arith) (omega arith))
             | yes! g ↦ elim (is (eqb (length list) (t .capacity))) [
-              | no! h ↦ rw (e, f, g, h) (refused! LIST refl (omega arith))
+              | no! h ↦ rw (e, f, g, h) (refused! LIST refl (omega arith) (omega arith))
               | yes! h ↦ elim (is (eqb asked (t .capacity))) [
                 | yes! i ↦ rw (e, f, g, h, i) (unchanged! refl (inl (eqb-true asked (t .capacity) i)))
                 | no! i ↦ elim (is (ltb 0 (t .loading))) [
                   | yes! j ↦ rw (e, f, g, h, i, j) (busy! refl (inl (ltb-true 0 (t .loading) j)))
                   | no! j ↦ elim (is (pinsClean (t .capacity) t pins 0)) [
-                    | no! k ↦ rw (e, f, g, h, i, j, k) (refused! UNCLEAN refl (omega arith))
+                    | no! k ↦ rw (e, f, g, h, i, j, k) (refused! UNCLEAN refl (omega arith) (omega arith))
                     | yes! k ↦ rw (e, f, g, h, i, j, k) (resize-on (omega (arith, ltb-false 0 (t .loading) j)) (eqb-true (length pins) (t .capacity) g) k (leb-true asked 256 f))
                   ]
                 ]

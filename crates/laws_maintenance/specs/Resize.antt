@@ -1,12 +1,12 @@
 -- SPDX-License-Identifier: Apache-2.0
--- What resize comes to on a table with the invariant: every answer, and what it leaves; 10 is none of them.
+-- What resize comes to on a table with the invariant: every answer, and what it leaves; 7 and 10 are none of them.
 use Prim.Native.Nat.{ℕ, _<_}
 use mathlib.Core.Path.{_≡_}
 use mathlib.Core.Logic.{_⊎_}
 use mathlib.Core.List.{List}
 use lib.ListN.{replicate}
 use Rattle.basics.specs.Try.{Try, ok, refuse}
-use Rattle.basics.specs.Refusals.{STOP}
+use Rattle.basics.specs.Refusals.{STOP, EXHAUSTED}
 use Rattle.basics.specs.Numbers.{NONE}
 use Rattle.state.specs.declared.State.{State}
 use Rattle.state.specs.Fresh.{fresh}
@@ -19,7 +19,8 @@ use Rattle.laws_maintenance.specs.Remade.{Remade}
 
 pub data ResizeOutcome (t : State) (asked : ℕ) (pins list : List ℕ) (r : Resizing) : Type 0 where
   -- "Unchanged, Busy and refusals touch neither it nor the table."
-  refused! : (n : ℕ) → r ≡ record { table = t; answer = refuse n; list = list } → (n ≡ STOP → ⊥) → ResizeOutcome t asked pins list r
+  refused! : (n : ℕ) → r ≡ record { table = t; answer = refuse n; list = list } → (n ≡ STOP → ⊥) → (n ≡ EXHAUSTED → ⊥)
+      → ResizeOutcome t asked pins list r
   unchanged! : r ≡ listed t unchanged list → (asked ≡ t .capacity) ⊎ (raised asked pins ≡ t .capacity) → ResizeOutcome t asked pins list r
   -- "Any loading: Busy"; or a chain refuses a pinned key, which growing never meets
   busy! : r ≡ listed t busyNow list

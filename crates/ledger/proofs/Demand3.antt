@@ -31,7 +31,7 @@ use Rattle.ledger.proofs.Calls.Resize.{resize-agrees}
 
 -- ── one call ──
 -- an answer that the ledger allows, and agreement after it
-call-agrees : (t : State) (l : Ledger) → Agree t l → (c : Call) → Fair l (event rules t c) → Allowed l (event rules t c) × Agree (after rules t c) (feed l (event rules t c))
+pub call-agrees : (t : State) (l : Ledger) → Agree t l → (c : Call) → Fair l (event rules t c) → Allowed l (event rules t c) × Agree (after rules t c) (feed l (event rules t c))
 unfolding event after feed
 call-agrees t l a (access key allow pins) f = let g = access-good t l a key allow pins (omega arith) (omega arith) in (g .gives, g .agrees)
 call-agrees t l a (publish k) f = publish-agrees t l a k (f .token)
@@ -63,7 +63,7 @@ module _ (t : State) (l : Ledger) (a : Agree t l) where
   unfolding expectEnd
   end-stale k o = rw (not-true (outstanding l k) (T-true (not (outstanding l k)) o))
 
-  agree-kept : Kept rules t l
+  pub agree-kept : Kept rules t l
   agree-kept =
       record {
         holds = agree-holds t l a;

@@ -10,7 +10,7 @@ use Rattle.laws_maintenance.proofs.CallsKeep.{resize-keeps, reclaim-keeps}
 use Rattle.ledger.specs.Calls.{Call, access, publish, abort, lookup, remove, detach, resize, reclaim, rules, event, after, run}
 use Rattle.ledger.specs.Valid.{Runs, StaysValid}
 
-call-valid : (t : State) → Valid t → (c : Call) → Valid (after rules t c) × Runs (event rules t c)
+pub call-valid : (t : State) → Valid t → (c : Call) → Valid (after rules t c) × Runs (event rules t c)
 unfolding after event
 call-valid t v (access key allow pins) = let k = access-keeps t v key allow pins in (k .valid, k .runs)
 call-valid t v (publish token) = let k = publish-keeps t v token in (k .valid, k .runs)

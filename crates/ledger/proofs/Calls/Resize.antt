@@ -55,7 +55,7 @@ keeps-keys pins old new pinned none-new grows =
     ])
 
 -- nothing changed
-keeps-same : (pins : List ℕ) (l : Ledger) → T (resizeKeeps pins l l)
+pub keeps-same : (pins : List ℕ) (l : Ledger) → T (resizeKeeps pins l l)
 keeps-same pins l = keeps-keys pins l l (λ h i e. present-in l h h i refl refl) (λ h i. present-in l h h i refl refl) (λ lt. absurd (omega arith))
 
 -- ── a remaking ──
@@ -206,7 +206,7 @@ module _ (t : State) (l : Ledger) (a : Agree t l) (pins : List ℕ) where
   unfolding feedResize
   resize-agrees asked list =
       elim (resize-law t (a .inv) (agree-valid t l a .1) asked pins list) [
-        | refused! n e q ↦ rw e (record { keeps = keeps-same pins l; agrees = a })
+        | refused! n e q q7 ↦ rw e (record { keeps = keeps-same pins l; agrees = a })
         | unchanged! e w ↦ rw e (record { keeps = keeps-same pins l; agrees = a })
         | busy! e w ↦ rw e (record { keeps = keeps-same pins l; agrees = a })
         | emptied! e q c pos lt ↦ rw e (anew (raised asked pins) (replicate (t .capacity) NONE) q c pos lt)

@@ -13,7 +13,7 @@ use Rattle.ledger.specs.Expect.{wasGiven}
 use Rattle.ledger.specs.Claim.{TokenGiven, Fair, FairAll}
 use Rattle.ledger.proofs.Keys.Lists.{true-T}
 
-abbrev tokenGiven : Ledger → Event → Bool
+abbrev pub tokenGiven : Ledger → Event → Bool
 tokenGiven l (accessed key allow pins a) = true
 tokenGiven l (published k a) = wasGiven l k
 tokenGiven l (aborted k a) = wasGiven l k
@@ -23,7 +23,7 @@ tokenGiven l (detached slot a) = true
 tokenGiven l (resized asked pins a list) = true
 tokenGiven l (reclaimed limit pins a count slots) = true
 
-abbrev meets : Ledger → Event → Bool
+abbrev pub meets : Ledger → Event → Bool
 meets l e = tokenGiven l e && ltb (l .uses) MAX && ltb (l .generations) MAX
 
 unfoldable pub meetsAll : Ledger → List Event → Bool
@@ -40,7 +40,7 @@ token-given l (detached slot a) q = tt
 token-given l (resized asked pins a list) q = tt
 token-given l (reclaimed limit pins a count slots) q = tt
 
-fair : (l : Ledger) (e : Event) → meets l e ≡ true → Fair l e
+pub fair : (l : Ledger) (e : Event) → meets l e ≡ true → Fair l e
 fair l e q =
     let g = tokenGiven l e in
     let u = ltb (l .uses) MAX in

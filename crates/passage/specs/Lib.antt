@@ -1,0 +1,3 @@
+-- SPDX-License-Identifier: Apache-2.0
+pub mod Access
+pub mod Resize
