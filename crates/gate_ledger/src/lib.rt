@@ -1,0 +1,2 @@
+// SPDX-License-Identifier: Apache-2.0
+// Theorems only: demand 3 under the gate.
