@@ -51,11 +51,28 @@ module _ (t : State) (g : Gate) (l : Ledger) (a : Agree t (l .keys)) (w : Told g
       let s : stopped l ≡ false = stops-told g l w ∙ clear in
       let n : loads (l .keys) ≡ false = loads-told t (l .keys) a ∙ quiet in
       elim (resize-law t (a .inv) (agree-valid t (l .keys) a .1) asked pins list) [
-        | refused! m e q q7 ↦ let z : eqb m EXHAUSTED ≡ false = ne-eqb m EXHAUSTED q7 in let r : resize t asked pins list .answer ≡ refuse m = ap (λ (x : Resizing). x .answer) e in record { keeps = k .keeps; agrees = k .agrees; pauses = rw r (w .pauses); dirty = rw r (w .dirty); mark = rw (r, z) (w .pending); may = rw r tt }
-        | unchanged! e q ↦ let r : resize t asked pins list .answer ≡ ok unchanged = ap (λ (x : Resizing). x .answer) e in record { keeps = k .keeps; agrees = k .agrees; pauses = rw r (w .pauses); dirty = rw r (w .dirty); mark = rw r; may = rw (r, s) tt }
-        | busy! e q ↦ let r : resize t asked pins list .answer ≡ ok busyNow = ap (λ (x : Resizing). x .answer) e in record { keeps = k .keeps; agrees = k .agrees; pauses = rw r (w .pauses); dirty = rw r (w .dirty); mark = rw (r, s, n) (w .pending); may = rw r tt }
-        | emptied! e q c pos lt ↦ let r : resize t asked pins list .answer ≡ ok (resized _) = ap (λ (x : Resizing). x .answer) e in record { keeps = k .keeps; agrees = k .agrees; pauses = rw r (w .pauses); dirty = rw r (w .dirty); mark = rw r; may = rw (r, s, n) tt }
-        | remade! m c fit ↦ record { keeps = k .keeps; agrees = k .agrees; pauses = rw (m .answer) (w .pauses); dirty = rw (m .answer) (w .dirty); mark = rw (m .answer); may = rw (m .answer, s, n) tt }
+        | refused! m e q q7 ↦
+            let z : eqb m EXHAUSTED ≡ false = ne-eqb m EXHAUSTED q7 in
+            let r : resize t asked pins list .answer ≡ refuse m = ap (λ (x : Resizing). x .answer) e in
+            record { keeps = k .keeps; agrees = k .agrees; pauses = rw r (w .pauses); dirty = rw r (w .dirty); mark = rw (r, z) (w .pending); may = rw r tt }
+        | unchanged! e q ↦
+            let r : resize t asked pins list .answer ≡ ok unchanged = ap (λ (x : Resizing). x .answer) e in
+            record { keeps = k .keeps; agrees = k .agrees; pauses = rw r (w .pauses); dirty = rw r (w .dirty); mark = rw r; may = rw (r, s) tt }
+        | busy! e q ↦
+            let r : resize t asked pins list .answer ≡ ok busyNow = ap (λ (x : Resizing). x .answer) e in
+            record { keeps = k .keeps; agrees = k .agrees; pauses = rw r (w .pauses); dirty = rw r (w .dirty); mark = rw (r, s, n) (w .pending); may = rw r tt }
+        | emptied! e q c pos lt ↦
+            let r : resize t asked pins list .answer ≡ ok (resized _) = ap (λ (x : Resizing). x .answer) e in
+            record { keeps = k .keeps; agrees = k .agrees; pauses = rw r (w .pauses); dirty = rw r (w .dirty); mark = rw r; may = rw (r, s, n) tt }
+        | remade! m c fit ↦
+            record {
+              keeps = k .keeps;
+              agrees = k .agrees;
+              pauses = rw (m .answer) (w .pauses);
+              dirty = rw (m .answer) (w .dirty);
+              mark = rw (m .answer);
+              may = rw (m .answer, s, n) tt;
+            }
       ]
 
   same : T (resizeKeeps pins (l .keys) (l .keys))
@@ -65,11 +82,15 @@ module _ (t : State) (g : Gate) (l : Ledger) (a : Agree t (l .keys)) (w : Told g
   unfolding passSteps markAfter mayBe plain.feedResize
   steps =
       elim (is (gates.stops g)) [
-        | yes! e ↦ let s : stopped l ≡ true = stops-told g l w ∙ e in rw e (record { keeps = same; agrees = a; pauses = w .pauses; dirty = w .dirty; mark = rw s (w .pending); may = tt })
+        | yes! e ↦
+            let s : stopped l ≡ true = stops-told g l w ∙ e in
+            rw e (record { keeps = same; agrees = a; pauses = w .pauses; dirty = w .dirty; mark = rw s (w .pending); may = tt })
         | no! e ↦ let s : stopped l ≡ false = stops-told g l w ∙ e in elim (is (eqb asked (t .capacity))) [
           | yes! f ↦ rw (e, f) (record { keeps = same; agrees = a; pauses = w .pauses; dirty = w .dirty; mark = refl; may = rw s tt })
           | no! f ↦ elim (is (ltb 0 (t .loading))) [
-            | yes! h ↦ let n : loads (l .keys) ≡ true = loads-told t (l .keys) a ∙ h in rw (e, f, h) (record { keeps = same; agrees = a; pauses = w .pauses; dirty = w .dirty; mark = rw (s, n); may = tt })
+            | yes! h ↦
+                let n : loads (l .keys) ≡ true = loads-told t (l .keys) a ∙ h in
+                rw (e, f, h) (record { keeps = same; agrees = a; pauses = w .pauses; dirty = w .dirty; mark = rw (s, n); may = tt })
             | no! h ↦ elim (is (eqb (g .generation) MAX)) [
               | yes! i ↦ rw (e, f, h, i) (record { keeps = same; agrees = a; pauses = w .pauses; dirty = w .dirty; mark = refl; may = tt })
               | no! i ↦ rw (e, f, h, i) (tried e h)
@@ -82,11 +103,17 @@ module _ (t : State) (g : Gate) (l : Ledger) (a : Agree t (l .keys)) (w : Told g
   unfolding resizeThrough markAfter mayBe plain.feedResize
   through =
       elim (input-law t asked (length pins) (length list)) [
-        | out! n e q z0 ↦ let z : eqb n EXHAUSTED ≡ false = ne-eqb n EXHAUSTED q in rw e (record { keeps = same; agrees = a; pauses = w .pauses; dirty = w .dirty; mark = rw z (w .pending); may = tt })
+        | out! n e q z0 ↦
+            let z : eqb n EXHAUSTED ≡ false = ne-eqb n EXHAUSTED q in
+            rw e (record { keeps = same; agrees = a; pauses = w .pauses; dirty = w .dirty; mark = rw z (w .pending); may = tt })
         | in! e ↦ rw e steps
       ]
 
 -- ── one call ──
+-- what is told of the gate does not hang on the keys
+told-as : {g : Gate} {l : Ledger} {k : plain.Ledger} → Told g l → Told g (record { keys = k; pauses = l .pauses; dirty = l .dirty; pending = l .pending })
+told-as w = record { pauses = w .pauses; dirty = w .dirty; pending = w .pending }
+
 record Good (s : Standing) (l : Ledger) (c : Call) : Type 0 where
   pub allowed : Allowed l (event rules s c)
   pub agrees : Agree (after rules s c .table) (feed l (event rules s c) .keys)
@@ -95,17 +122,30 @@ record Good (s : Standing) (l : Ledger) (c : Call) : Type 0 where
 good : (s : Standing) (l : Ledger) → Agree (s .table) (l .keys) → Told (s .gate) l → (c : Call) → Fair l (event rules s c) → Good s l c
 unfolding event after feed feedMark gateAfter readAs accessThrough Plain.event Plain.after plain.feed
 good s l a w (call (Plain.access key allow pins)) f =
-    let k = call-agrees (s .table) (l .keys) a (Plain.access key (gates.admits (s .gate) allow) pins) (record { token = tt; uses = f .uses; generations = f .generations }) in
-    record { allowed = rw (← admits-told (s .gate) l w allow) (k .0); agrees = k .1; told = record { pauses = w .pauses; dirty = w .dirty; pending = w .pending } }
-good s l a w (call (Plain.publish k)) f = let r = call-agrees (s .table) (l .keys) a (Plain.publish k) f in record { allowed = r .0; agrees = r .1; told = record { pauses = w .pauses; dirty = w .dirty; pending = w .pending } }
-good s l a w (call (Plain.abort k)) f = let r = call-agrees (s .table) (l .keys) a (Plain.abort k) f in record { allowed = r .0; agrees = r .1; told = record { pauses = w .pauses; dirty = w .dirty; pending = w .pending } }
-good s l a w (call (Plain.lookup key)) f = let r = call-agrees (s .table) (l .keys) a (Plain.lookup key) f in record { allowed = r .0; agrees = r .1; told = record { pauses = w .pauses; dirty = w .dirty; pending = w .pending } }
-good s l a w (call (Plain.remove slot)) f = let r = call-agrees (s .table) (l .keys) a (Plain.remove slot) f in record { allowed = r .0; agrees = r .1; told = record { pauses = w .pauses; dirty = w .dirty; pending = w .pending } }
-good s l a w (call (Plain.detach slot)) f = let r = call-agrees (s .table) (l .keys) a (Plain.detach slot) f in record { allowed = r .0; agrees = r .1; told = record { pauses = w .pauses; dirty = w .dirty; pending = w .pending } }
+    let k = call-agrees (s .table) (l .keys) a (Plain.access key (gates.admits (s .gate) allow) pins)
+    (record { token = tt; uses = f .uses; generations = f .generations }) in
+    record { allowed = rw (← admits-told (s .gate) l w allow) (k .0); agrees = k .1; told = told-as w }
+good s l a w (call (Plain.publish k)) f =
+    let r = call-agrees (s .table) (l .keys) a (Plain.publish k) f in
+    record { allowed = r .0; agrees = r .1; told = told-as w }
+good s l a w (call (Plain.abort k)) f =
+    let r = call-agrees (s .table) (l .keys) a (Plain.abort k) f in
+    record { allowed = r .0; agrees = r .1; told = told-as w }
+good s l a w (call (Plain.lookup key)) f =
+    let r = call-agrees (s .table) (l .keys) a (Plain.lookup key) f in
+    record { allowed = r .0; agrees = r .1; told = told-as w }
+good s l a w (call (Plain.remove slot)) f =
+    let r = call-agrees (s .table) (l .keys) a (Plain.remove slot) f in
+    record { allowed = r .0; agrees = r .1; told = told-as w }
+good s l a w (call (Plain.detach slot)) f =
+    let r = call-agrees (s .table) (l .keys) a (Plain.detach slot) f in
+    record { allowed = r .0; agrees = r .1; told = told-as w }
 good s l a w (call (Plain.resize asked pins list)) f =
     let r = through (s .table) (s .gate) l a w asked pins list in
     record { allowed = r .keeps; agrees = r .agrees; told = record { pauses = r .pauses; dirty = r .dirty; pending = r .mark } }
-good s l a w (call (Plain.reclaim limit pins)) f = let r = call-agrees (s .table) (l .keys) a (Plain.reclaim limit pins) f in record { allowed = r .0; agrees = r .1; told = record { pauses = w .pauses; dirty = w .dirty; pending = w .pending } }
+good s l a w (call (Plain.reclaim limit pins)) f =
+    let r = call-agrees (s .table) (l .keys) a (Plain.reclaim limit pins) f in
+    record { allowed = r .0; agrees = r .1; told = told-as w }
 good s l a w (turn k) f = let r = turn-told (s .gate) l w k in record { allowed = r .0; agrees = turn-keys l k (fine (turnGate (s .gate) k)) a; told = r .1 }
 
 -- ── a list of calls ──
@@ -116,7 +156,9 @@ record Stands (s : Standing) (l : Ledger) : Type 0 where
 stands : (s : Standing) (l : Ledger) → Stands s l → (cs : List Call) → FairAll l (log rules s cs) → Stands (run rules s cs) (feeds l (log rules s cs))
 unfolding run log feeds
 stands s l z [] f = z
-stands s l z (c ∷ cs) f = let k = good s l (z .agrees) (z .told) c (f .0) in stands (after rules s c) (feed l (event rules s c)) (record { agrees = k .agrees; told = k .told }) cs (f .1)
+stands s l z (c ∷ cs) f =
+    let k = good s l (z .agrees) (z .told) c (f .0) in
+    stands (after rules s c) (feed l (event rules s c)) (record { agrees = k .agrees; told = k .told }) cs (f .1)
 
 kept : (s : Standing) (l : Ledger) → Stands s l → Kept rules s l
 unfolding accessThrough

@@ -34,3 +34,8 @@ later = filled 65 0 ++ (call (Plain.access (key 1) true (replicate 129 0)) ∷ s
 later-gate : run rules (start 129) later .gate ≡ gates.gateOf 0 0 true 1
 unfolding opened later
 later-gate = refl
+
+-- it meets the premises
+later-kept : Kept rules (run rules (start 129) later) (ledgerOf rules 129 later)
+unfolding opened meetsAll later
+later-kept = demand3-gated 129 (omega arith) (omega arith) later (fair-all (begin 129) (log rules (start 129) later) refl)

@@ -35,7 +35,9 @@ pub fair-all : (l : Ledger) (es : List Event) → meetsAll l es ≡ true → Fai
 unfolding meetsAll
 fair-all l [] q = tt
 fair-all l (called e ∷ es) q =
-    let m = meets (l .keys) e in let r = meetsAll (feed l (called e)) es in (fair (l .keys) e (and-left m r q), fair-all (feed l (called e)) es (and-right m r q))
+    let m = meets (l .keys) e in
+    let r = meetsAll (feed l (called e)) es in
+    (fair (l .keys) e (and-left m r q), fair-all (feed l (called e)) es (and-right m r q))
 fair-all l (turned k a ∷ es) q = (tt, fair-all (feed l (turned k a)) es q)
 
 -- ── every state of the gate, on a table of one slot ──

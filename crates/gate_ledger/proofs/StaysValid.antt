@@ -25,7 +25,8 @@ use Rattle.passage.specs.Resize.{attemptRule, passSteps, resizeThrough}
 use Rattle.ledger.specs.Calls as Plain
 use Rattle.ledger.specs.Valid.{Goes}
 use Rattle.ledger.proofs.StaysValid.{call-valid}
-use Rattle.gate_ledger.specs.Calls.{Turn, beginPause, endPause, beginDirty, endDirty, Call, call, turn, rules, turnGate, gateAfter, Standing, start, fine, event, after, run}
+use Rattle.gate_ledger.specs.Calls.{Turn, beginPause, endPause, beginDirty, endDirty, Call, call, turn}
+use Rattle.gate_ledger.specs.Calls.{rules, turnGate, Standing, start, fine, event, after, run}
 use Rattle.gate_ledger.specs.Valid.{Runs, StaysValidGated}
 use Rattle.gate_ledger.proofs.Told.{out!, in!, input-law}
 
@@ -57,10 +58,10 @@ module _ (t : State) (v : Valid t) (g : Gate) (asked : ℕ) (pins list : List �
 
 turn-runs : (g : Gate) (k : Turn) → Goes (fine (turnGate g k))
 unfolding turnGate gates.beginPause gates.endPause gates.beginDirty gates.endDirty gates.oneMore gates.oneLess
-turn-runs g beginPause = elim (is (eqb (g .pauses) MAX)) [ | yes! e ↦ rw e (runs refl (omega arith)) | no! e ↦ rw e (runs refl (omega arith)) ]
-turn-runs g endPause = elim (is (ltb 0 (g .pauses))) [ | yes! e ↦ rw e (runs refl (omega arith)) | no! e ↦ rw e (runs refl (omega arith)) ]
-turn-runs g beginDirty = elim (is (eqb (g .dirty) MAX)) [ | yes! e ↦ rw e (runs refl (omega arith)) | no! e ↦ rw e (runs refl (omega arith)) ]
-turn-runs g endDirty = elim (is (ltb 0 (g .dirty))) [ | yes! e ↦ rw e (runs refl (omega arith)) | no! e ↦ rw e (runs refl (omega arith)) ]
+turn-runs g beginPause = elim (is (eqb (g .pauses) MAX)) [ yes! e ↦ rw e (runs refl (omega arith)) | no! e ↦ rw e (runs refl (omega arith)) ]
+turn-runs g endPause = elim (is (ltb 0 (g .pauses))) [ yes! e ↦ rw e (runs refl (omega arith)) | no! e ↦ rw e (runs refl (omega arith)) ]
+turn-runs g beginDirty = elim (is (eqb (g .dirty) MAX)) [ yes! e ↦ rw e (runs refl (omega arith)) | no! e ↦ rw e (runs refl (omega arith)) ]
+turn-runs g endDirty = elim (is (ltb 0 (g .dirty))) [ yes! e ↦ rw e (runs refl (omega arith)) | no! e ↦ rw e (runs refl (omega arith)) ]
 
 -- ── one call ──
 gated-valid : (s : Standing) → Valid (s .table) → (c : Call) → Valid (after rules s c .table) × Runs (event rules s c)

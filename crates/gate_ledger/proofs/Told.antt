@@ -33,26 +33,35 @@ use Rattle.gate_ledger.specs.Ledger.{Ledger, allows, stopped, loads, fee
 use Rattle.gate_ledger.specs.Claim.{expectTurn, Told}
 
 -- ── a turn of the gate ──
-pub turn-told : (g : Gate) (l : Ledger) → Told g l → (k : Turn) → (fine (turnGate g k) ≡ expectTurn l k) × Told (gateOr g (turnGate g k)) (feedTurn l k (fine (turnGate g k)))
+pub turn-told : (g : Gate) (l : Ledger) → Told g l → (k : Turn)
+    → (fine (turnGate g k) ≡ expectTurn l k) × Told (gateOr g (turnGate g k)) (feedTurn l k (fine (turnGate g k)))
 unfolding turnGate expectTurn feedTurn gates.beginPause gates.endPause gates.beginDirty gates.endDirty gates.oneMore gates.oneLess
 turn-told g l w beginPause =
     elim (is (eqb (g .pauses) MAX)) [
       | yes! e ↦ let q : eqb (l .pauses) MAX ≡ true = ap (λ (n : ℕ). eqb n MAX) (sym (w .pauses)) ∙ e in rw (e, q) (refl, w)
-      | no! e ↦ let q : eqb (l .pauses) MAX ≡ false = ap (λ (n : ℕ). eqb n MAX) (sym (w .pauses)) ∙ e in rw (e, q) (refl, record { pauses = ap (λ (n : ℕ). n + 1) (w .pauses); dirty = w .dirty; pending = w .pending })
+      | no! e ↦
+          let q : eqb (l .pauses) MAX ≡ false = ap (λ (n : ℕ). eqb n MAX) (sym (w .pauses)) ∙ e in
+          rw (e, q) (refl, record { pauses = ap (λ (n : ℕ). n + 1) (w .pauses); dirty = w .dirty; pending = w .pending })
     ]
 turn-told g l w endPause =
     elim (is (ltb 0 (g .pauses))) [
-      | yes! e ↦ let q : ltb 0 (l .pauses) ≡ true = ap (λ (n : ℕ). ltb 0 n) (sym (w .pauses)) ∙ e in rw (e, q) (refl, record { pauses = omega (arith, w .pauses); dirty = w .dirty; pending = w .pending })
+      | yes! e ↦
+          let q : ltb 0 (l .pauses) ≡ true = ap (λ (n : ℕ). ltb 0 n) (sym (w .pauses)) ∙ e in
+          rw (e, q) (refl, record { pauses = omega (arith, w .pauses); dirty = w .dirty; pending = w .pending })
       | no! e ↦ let q : ltb 0 (l .pauses) ≡ false = ap (λ (n : ℕ). ltb 0 n) (sym (w .pauses)) ∙ e in rw (e, q) (refl, w)
     ]
 turn-told g l w beginDirty =
     elim (is (eqb (g .dirty) MAX)) [
       | yes! e ↦ let q : eqb (l .dirty) MAX ≡ true = ap (λ (n : ℕ). eqb n MAX) (sym (w .dirty)) ∙ e in rw (e, q) (refl, w)
-      | no! e ↦ let q : eqb (l .dirty) MAX ≡ false = ap (λ (n : ℕ). eqb n MAX) (sym (w .dirty)) ∙ e in rw (e, q) (refl, record { pauses = w .pauses; dirty = ap (λ (n : ℕ). n + 1) (w .dirty); pending = w .pending })
+      | no! e ↦
+          let q : eqb (l .dirty) MAX ≡ false = ap (λ (n : ℕ). eqb n MAX) (sym (w .dirty)) ∙ e in
+          rw (e, q) (refl, record { pauses = w .pauses; dirty = ap (λ (n : ℕ). n + 1) (w .dirty); pending = w .pending })
     ]
 turn-told g l w endDirty =
     elim (is (ltb 0 (g .dirty))) [
-      | yes! e ↦ let q : ltb 0 (l .dirty) ≡ true = ap (λ (n : ℕ). ltb 0 n) (sym (w .dirty)) ∙ e in rw (e, q) (refl, record { pauses = w .pauses; dirty = omega (arith, w .dirty); pending = w .pending })
+      | yes! e ↦
+          let q : ltb 0 (l .dirty) ≡ true = ap (λ (n : ℕ). ltb 0 n) (sym (w .dirty)) ∙ e in
+          rw (e, q) (refl, record { pauses = w .pauses; dirty = omega (arith, w .dirty); pending = w .pending })
       | no! e ↦ let q : ltb 0 (l .dirty) ≡ false = ap (λ (n : ℕ). ltb 0 n) (sym (w .dirty)) ∙ e in rw (e, q) (refl, w)
     ]
 

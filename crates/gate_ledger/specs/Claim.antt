@@ -19,7 +19,8 @@ use Rattle.ledger.specs.Calls as Plain
 use Rattle.ledger.specs.Ledger.{Held}
 use Rattle.ledger.specs.Expect.{unpinned, cleanOnes, oldest, wasGiven, outstanding}
 use Rattle.ledger.specs.Claim as PlainClaim
-use Rattle.gate_ledger.specs.Calls.{Turn, beginPause, endPause, beginDirty, endDirty, Call, Event, called, turned, Machine, Standing, start, event, run, log}
+use Rattle.gate_ledger.specs.Calls.{Turn, beginPause, endPause, beginDirty, endDirty, Call, Event, called, turned}
+use Rattle.gate_ledger.specs.Calls.{Machine, Standing, start, event, run, log}
 use Rattle.gate_ledger.specs.Ledger.{Ledger, begin, allows, stopped, loads, feed, feeds}
 
 -- the event as document 01's ledger reads it

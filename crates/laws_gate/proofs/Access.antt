@@ -41,9 +41,11 @@ module _ (t : State) where
   quiet : (key : CacheKey) (pins : List ℕ) → begins (access t key false pins .answer) ≡ false
   unfolding access
   quiet key pins =
-      let walked = seek t key >>= λ (s : Seek). accessSeen (s .table) key false pins (s .seen) in
+      let step : Seek → Try (After Given) = λ (s : Seek). accessSeen (s .table) key false pins (s .seen) in
+      let walked = seek t key >>= step in
+      let none = on (seek t key) step (λ s. seen (s .table) key pins (s .seen)) in
       past (need (sound t) STOP) (need (eqb (length pins) (t .capacity)) PINS >> walked)
-      (past (need (eqb (length pins) (t .capacity)) PINS) walked (on (seek t key) (λ (s : Seek). accessSeen (s .table) key false pins (s .seen)) (λ s. seen (s .table) key pins (s .seen))))
+      (past (need (eqb (length pins) (t .capacity)) PINS) walked none)
 
 pub loads-nothing : LoadsNothing
 unfolding accessThrough

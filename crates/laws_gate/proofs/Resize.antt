@@ -87,7 +87,8 @@ module _ (t : State) (g : Gate) (asked : ℕ) (pins list : List ℕ) where
   tests = needInput t asked (length pins) (length list)
 
   -- ── with the gate open ──
-  open-steps : stops g ≡ false → (g .generation ≡ MAX → ⊥) → tests ≡ ok done → passSteps t g asked pins list .resizing ≡ unlessRefused t list (resizeSteps t asked pins list)
+  open-steps : stops g ≡ false → (g .generation ≡ MAX → ⊥) → tests ≡ ok done
+      → passSteps t g asked pins list .resizing ≡ unlessRefused t list (resizeSteps t asked pins list)
   unfolding passSteps attemptRule resizeSteps
   open-steps s n y =
       elim (is (eqb asked (t .capacity))) [

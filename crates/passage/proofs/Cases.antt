@@ -28,7 +28,9 @@ use Rattle.passage.specs.Access.{accessThrough}
 use Rattle.passage.specs.Resize.{Passing, passingOf, needInputOf, needInput, attempted, attemptRule, stays, passSteps, orRefused, resizeThrough}
 
 -- ── access ──
-pub accesses : (t : State) (g : Gate) (key : CacheKey) (allow : Bool) (pins : List ℕ) {b : Bool} {r : After Given} → b ≡ admits g allow → r ≡ access t key b pins → r ≡ accessThrough t g key allow pins
+pub accesses :
+    (t : State) (g : Gate) (key : CacheKey) (allow : Bool) (pins : List ℕ) {b : Bool} {r : After Given} → b ≡ admits g allow → r ≡ access t key b pins
+    → r ≡ accessThrough t g key allow pins
 unfolding accessThrough
 accesses t g key allow pins e q = q ∙ ap (λ (b : Bool). access t key b pins) e
 
@@ -57,14 +59,16 @@ module _ (c : ℕ) (asked p l : ℕ) {s : Bool} where
       input-fine e f = rw (y, z, eq-eqb p c e, eq-eqb l c f)
 
 -- ── an attempt ──
-module _ (t : State) (g : Gate) (asked : ℕ) (pins list : List ℕ) (r : Maintained) {after : List ℕ} (e : maintainedAfter r after ≡ resize t asked pins list) where
+module _ (t : State) (g : Gate) (asked : ℕ) (pins list : List ℕ) (r : Maintained) {after : List ℕ}
+    (e : maintainedAfter r after ≡ resize t asked pins list) where
   answered : {a : Maintenance} → r .answer ≡ a → resize t asked pins list .answer ≡ sizeAnswer a
   answered q = sym (ap (λ (x : Resizing). x .answer) e) ∙ ap sizeAnswer q
 
   remade : {a : Maintenance} → r .answer ≡ a → record { table = r .state; answer = sizeAnswer a; list = after } ≡ resize t asked pins list
   remade q = sym (ap (λ (m : Maintenance). record { table = r .state; answer = sizeAnswer m; list = after }) q) ∙ e
 
-  pub attempt-is : {a : Maintenance} {h : Gate} → r .answer ≡ a → h ≡ attempted g (sizeAnswer a) → passingOf (record { table = r .state; answer = sizeAnswer a; list = after }) h ≡ attemptRule t g asked pins list
+  pub attempt-is : {a : Maintenance} {h : Gate} → r .answer ≡ a → h ≡ attempted g (sizeAnswer a)
+      → passingOf (record { table = r .state; answer = sizeAnswer a; list = after }) h ≡ attemptRule t g asked pins list
   unfolding attemptRule
   attempt-is q k = λ i. passingOf (remade q i) ((k ∙ ap (attempted g) (sym (answered q))) i)
 
@@ -86,7 +90,8 @@ attempt-resized g c = refl
 
 -- ── resize ──
 module _ (t : State) (g : Gate) (asked : ℕ) (pins list : List ℕ) where
-  pub through-refused : {n : ℕ} → needInput t asked (length pins) (length list) ≡ refuse n → stays t list (refuse n) (marked (g .pending) g) ≡ resizeThrough t g asked pins list
+  pub through-refused : {n : ℕ} → needInput t asked (length pins) (length list) ≡ refuse n
+      → stays t list (refuse n) (marked (g .pending) g) ≡ resizeThrough t g asked pins list
   unfolding resizeThrough
   through-refused e = rw e
 
@@ -113,8 +118,10 @@ module _ (t : State) (g : Gate) (asked : ℕ) (pins list : List ℕ) where
           module _ (h : t .loading ≤ 0) where
             pub through-spent : g .generation ≡ MAX → stays t list (refuse EXHAUSTED) (marked false g) ≡ resizeThrough t g asked pins list
             unfolding resizeThrough passSteps stops
-            through-spent e = rw (y, eq-eqb (g .pauses) 0 p, eq-eqb (g .dirty) 0 d, ne-eqb asked (t .capacity) n, le-ltb 0 (t .loading) h, eq-eqb (g .generation) MAX e)
+            through-spent e =
+                rw (y, eq-eqb (g .pauses) 0 p, eq-eqb (g .dirty) 0 d, ne-eqb asked (t .capacity) n, le-ltb 0 (t .loading) h, eq-eqb (g .generation) MAX e)
 
             pub through-on : (g .generation ≡ MAX → ⊥) → attemptRule t g asked pins list ≡ resizeThrough t g asked pins list
             unfolding resizeThrough passSteps stops
-            through-on e = rw (y, eq-eqb (g .pauses) 0 p, eq-eqb (g .dirty) 0 d, ne-eqb asked (t .capacity) n, le-ltb 0 (t .loading) h, ne-eqb (g .generation) MAX e)
+            through-on e =
+                rw (y, eq-eqb (g .pauses) 0 p, eq-eqb (g .dirty) 0 d, ne-eqb asked (t .capacity) n, le-ltb 0 (t .loading) h, ne-eqb (g .generation) MAX e)
