@@ -19,7 +19,6 @@ run-resize-spec =
     slice-aggregate-resize
     (λ c κs. search needs)
     (λ c κs. search needs)
-    (λ c κs. search needs)
     (λ c. search needs)
     (λ c. search needs)
     (λ c. search needs))

@@ -1,11 +1,11 @@
 -- SPDX-License-Identifier: Apache-2.0
--- `made_up::wait` meets its contract. The invariant: bytes go to places in front of them, within the list. Assumes nothing.
+-- `cases::wait` meets its contract. The invariant: bytes go to places in front of them, within the list. Assumes nothing.
 use Prim.Native.Nat.{_-_, _≤_}
 use mathlib.Core.Path.{_≡_}
 use lib.ListN.{length}
 use borrow.Author.Needs.{needs}
-use Rattle.made_up.proofs.wait.Statement.{statement}
-use Rattle.made_up.proofs.wait.Tie as tie
+use Rattle.cases.proofs.wait.Statement.{statement}
+use Rattle.cases.proofs.wait.Tie as tie
 
 abbrev Inv-loop : tie.InvT-loop
 Inv-loop bytes₀ from end have at₀ to₀ bytes at to = (to ≤ at) × (to ≤ have) × (length bytes ≡ length bytes₀)
