@@ -6,7 +6,7 @@ use std::collections::BTreeMap;
 use std::fmt::Debug;
 
 use crate::picture::{CLEAN, MOST_SLOTS, NONE};
-use crate::{Access, CacheKey, Maintained, Table, Token};
+use crate::{Access, CacheKey, Gate, Maintained, Table, Token};
 
 pub const INVALID_CAPACITY: u8 = 1;
 pub const ALLOCATION: u8 = 2;
@@ -84,12 +84,20 @@ pub fn new(asked: u64, differences: &mut Differences) -> Result<Table, u8> {
     Table::try_new(capacity(asked, "new, 2", differences, |asked| Table::try_new(asked).map(drop))?)
 }
 
+/// Refusal 3 (added). The original's pins are in its pages, as many as slots.
+fn pins_fit(table: &Table, pins: &[u8]) -> Result<(), u8> {
+    if pins.len() == table.capacity() { Ok(()) } else { Err(PINS) }
+}
+
 pub fn access(table: &mut Table, key: CacheKey, allow: bool, pins: &[u8]) -> Result<Access, u8> {
-    // Added: 3. The original's pins are in its pages, as many as slots.
-    if pins.len() != table.capacity() {
-        return Err(PINS);
-    }
+    pins_fit(table, pins)?;
     table.access(key, allow, pins)
+}
+
+/// Document 02's access, by the original's own function where the table allows it.
+pub fn access_through(table: &mut Table, gate: &mut Gate, key: CacheKey, allow: bool, pins: &[u8]) -> Result<Access, u8> {
+    pins_fit(table, pins)?;
+    table.access_through(gate, key, allow, pins)
 }
 
 pub fn publish(table: &mut Table, token: Token, differences: &mut Differences) -> Result<(), u8> {
@@ -135,44 +143,58 @@ pub fn set_pin(table: &mut Table, pins: &mut [u8], slot: u64, pin: u8) -> Result
     Ok(())
 }
 
-pub fn resize(table: &mut Table, asked: u64, pins: &[u8], list: &mut [u16], differences: &mut Differences) -> Result<Maintained, u8> {
+/// Document 02's resize; at an open gate it is document 01's.
+pub fn resize(
+    table: &mut Table,
+    gate: &mut Gate,
+    asked: u64,
+    pins: &[u8],
+    list: &mut [u16],
+    differences: &mut Differences,
+) -> Result<Maintained, u8> {
+    let before = *gate;
+    // The original's answer, and whether it went past its gate: there a generation is taken, and a stop cannot come earlier.
     let original = |table: &Table, asked| {
         let slots = table.capacity();
         let pins: Vec<u8> = (0..slots).map(|slot| pins.get(slot).copied().unwrap_or(0)).collect();
-        table.clone().resize(asked, &pins, &mut vec![0; slots])
+        let mut gate = before;
+        let answer = table.clone().resize(&mut gate, asked, &pins, &mut vec![0; slots]);
+        let past = gate.generation != before.generation || answer == Err(STOP);
+        (answer, past)
     };
-    let asked = capacity(asked, "resize, 2", differences, |asked| original(table, asked))?;
-    // Added: 3 and 4. The original has neither pin bytes nor list.
-    if pins.len() != table.capacity() {
-        return Err(PINS);
-    }
+    let asked = capacity(asked, "resize, 2", differences, |asked| original(table, asked).0)?;
+    pins_fit(table, pins)?;
+    // Added: 4. The original has no list.
     if list.len() != table.capacity() {
         return Err(LIST);
     }
-    // DIFFERENCE resize 8: after the first Unchanged and the first Busy, before all else. The original counts
-    // the pins first, so it may be Unchanged or make the fresh table; else it stops.
-    if asked != table.capacity() && table.loading() == 0 {
-        for slot in 0..table.capacity() {
-            if pins[slot] != 0 && table.clean_entry(slot)?.is_none() {
-                differences.note("resize, 8", original(table, asked));
-                return Err(NOT_CLEAN);
-            }
+    // DIFFERENCE resize 8: after the gate (the first Unchanged, the first Busy and 7), before all else. The original counts
+    // the pins first, so it may be Unchanged or make the fresh table; else it stops. The gate is as it was, where the original has taken a generation.
+    if table.picture().slots.iter().zip(pins).any(|(slot, pin)| *pin != 0 && slot.kind != CLEAN) {
+        let (answer, past) = original(table, asked);
+        if past {
+            differences.note("resize, 8", answer);
+            return Err(NOT_CLEAN);
         }
     }
-    let answer = table.resize(asked, pins, list)?;
+    // 10 leaves the gate as it was: the original's table and gate are given up where it stops.
+    let answer = table.resize(gate, asked, pins, list)?;
     // DIFFERENCE resize's list for a key that stands twice: the list says where each page went, and in the
     // original the second page overwrites the first.
     if let Maintained::Resized { overwritten: true, .. } = answer {
         differences.count("resize, list of a doubled key; in the Rust the first page is overwritten");
+    }
+    // DIFFERENCE the mark after a later Busy, one for which a generation was taken: it is as it was. The original clears it, whatever it answers.
+    if answer == Maintained::Busy && gate.generation != before.generation && gate.pending != before.pending {
+        differences.count("resize, the mark after a later Busy; the Rust clears it");
+        gate.pending = before.pending;
     }
     Ok(answer)
 }
 
 /// The slots that left, in order.
 pub fn reclaim(table: &mut Table, limit: u64, pins: &[u8], differences: &mut Differences) -> Result<Vec<u16>, u8> {
-    if pins.len() != table.capacity() {
-        return Err(PINS);
-    }
+    pins_fit(table, pins)?;
     let limit = limit as usize;
     let picture = table.picture();
     let place = |slot: &u16| picture.positions.get(usize::from(*slot)).copied();

@@ -1,5 +1,5 @@
 // SPDX-License-Identifier: Apache-2.0
-//! The original page cache table, built unchanged, and what runs it: document 01's calls, run sheets and made-up tables.
+//! The original page cache table, built unchanged, and what runs it: document 01's calls, run sheets and made-up tables, and document 02's gate.
 //! `cache` is the original module; oracle/build puts its files beside our stand-ins.
 
 extern crate alloc;
@@ -8,14 +8,19 @@ extern crate alloc;
 mod cache;
 pub mod calls;
 pub mod case;
+pub mod gate_calls;
+pub mod gate_case;
 pub mod make_aimed;
 pub mod make_cases;
+pub mod make_gate;
+pub mod make_gate_aimed;
 pub mod make_sheets;
 pub mod past;
 pub mod picture;
 pub mod random;
 pub mod sheet;
 
+pub use cache::raw::gate::{Did, Gate, Turned};
 pub use cache::raw::{Access, CacheKey, Maintained, Table, Token};
 
 /// Whether a text was written. False where nobody reads any more, which is an ordinary end; any other failure ends the program with status 1.

@@ -9,16 +9,16 @@ use crate::{Access, CacheKey, Table, Token};
 
 const MAX: u64 = u64::MAX;
 /// A table of 66 slots has this many buckets, so files that are multiples of it share one.
-const APART: u64 = 256;
+pub const APART: u64 = 256;
 
 type Aimed = Vec<(&'static str, Case)>;
 
-fn key(file: u64) -> CacheKey {
+pub fn key(file: u64) -> CacheKey {
     CacheKey { file, kind: 0, index: 0 }
 }
 
 /// Each file is loaded in its turn: slots 0, 1 and so on, uses 1, 2 and so on.
-fn loaded(capacity: usize, files: impl IntoIterator<Item = u64>) -> Table {
+pub fn loaded(capacity: usize, files: impl IntoIterator<Item = u64>) -> Table {
     let mut table = Table::try_new(capacity).expect("a capacity");
     for file in files {
         let token = reserve(&mut table, file);
@@ -27,37 +27,37 @@ fn loaded(capacity: usize, files: impl IntoIterator<Item = u64>) -> Table {
     table
 }
 
-fn reserve(table: &mut Table, file: u64) -> Token {
+pub fn reserve(table: &mut Table, file: u64) -> Token {
     let pins = vec![0; table.capacity()];
     let Ok(Access::Reserved { token, .. }) = table.access(key(file), true, &pins) else { panic!("a vacant slot") };
     token
 }
 
-fn clean(capacity: usize, files: impl IntoIterator<Item = u64>) -> Picture {
+pub fn clean(capacity: usize, files: impl IntoIterator<Item = u64>) -> Picture {
     loaded(capacity, files).picture()
 }
 
 /// The call on the table; its number is 0, its key that of file 1, no slot is pinned.
-fn call(code: u8, table: &Picture) -> Case {
+pub fn call(code: u8, table: &Picture) -> Case {
     let slots = table.capacity as usize;
     let token = Token { slot: 0, generation: 0, key: key(1), access_sequence: 0 };
     Case { code, allow: 1, token, list_len: slots as u16, pins: vec![0; slots], table: table.clone() }
 }
 
-fn of_file(code: u8, table: &Picture, file: u64) -> Case {
+pub fn of_file(code: u8, table: &Picture, file: u64) -> Case {
     let mut case = call(code, table);
     case.token.key = key(file);
     case
 }
 
-fn of_number(code: u8, table: &Picture, number: u64) -> Case {
+pub fn of_number(code: u8, table: &Picture, number: u64) -> Case {
     let mut case = call(code, table);
     case.token.slot = number as usize;
     case
 }
 
 /// The slots of the first heap places pinned.
-fn pinned(mut case: Case, places: usize) -> Case {
+pub fn pinned(mut case: Case, places: usize) -> Case {
     for (slot, _) in case.table.entries.iter().take(places) {
         case.pins[usize::from(*slot)] = 1;
     }

@@ -2,7 +2,7 @@
 //! Made-up tables by seed: the table of a sheet at some record, damaged in a few places, and one call.
 
 use crate::case::{CALLS, CLEAN_ENTRY, COLD_CANDIDATE, Case, DETACH, VALIDATE};
-use crate::make_sheets::Maker;
+use crate::make_sheets::{Few, Maker};
 use crate::picture::{CLEAN, LOADING, MOST_BUCKETS, MOST_SLOTS, NONE, Picture, Record, VACANT, bucket_count};
 use crate::random::Random;
 use crate::sheet::{ABORT, ACCESS, PUBLISH, RECLAIM, REMOVE, RESIZE};
@@ -13,6 +13,11 @@ const EACH: u64 = 12;
 
 pub fn cases(seed: u64, count: u64, emit: &mut impl FnMut(&Case)) {
     let mut random = Random::new(seed ^ 0x6d61_6465_2075_7021);
+    tables(&mut random, count, &mut |table, few, random| emit(&call(table, few, random)));
+}
+
+/// Tables, each with the keys that it was made with and numbers for its call.
+pub fn tables(random: &mut Random, count: u64, emit: &mut impl FnMut(Picture, Few, &mut Random)) {
     let mut left = count;
     while left > 0 {
         let records = random.between(2, 150);
@@ -21,23 +26,24 @@ pub fn cases(seed: u64, count: u64, emit: &mut impl FnMut(&Case)) {
             maker.episode();
         }
         if random.chance(1, 2) {
-            finish_loads(&mut maker, &mut random);
+            finish_loads(&mut maker, random);
         }
         if random.chance(1, 3) {
             fill(&mut maker);
         }
         let Some(table) = &maker.sheet.table else { continue };
         let undamaged = table.picture();
+        let few = Few { keys: maker.keys, count: maker.key_count };
         for case in 0..EACH.min(left) {
             left -= 1;
             let mut table = undamaged.clone();
             let mut random = Random::new(random.next() ^ case);
             for _ in 0..random.below(5) {
                 if table.sound() {
-                    damage(&mut table, &maker, &mut random);
+                    damage(&mut table, few, &mut random);
                 }
             }
-            emit(&call(table, &maker, &mut random));
+            emit(table, few, &mut random);
         }
     }
 }
@@ -100,16 +106,16 @@ fn any_count(count: u64, random: &mut Random) -> u64 {
     }
 }
 
-fn any_key(table: &Picture, maker: &Maker, random: &mut Random) -> CacheKey {
+fn any_key(table: &Picture, few: Few, random: &mut Random) -> CacheKey {
     if random.chance(2, 3) && !table.slots.is_empty() {
         table.slots[random.below(table.slots.len() as u64) as usize].key
     } else {
-        maker.keys.key(random.below(maker.key_count + 2))
+        few.keys.key(random.below(few.count + 2))
     }
 }
 
 /// One place of the table is changed, or two that belong together.
-fn damage(table: &mut Picture, maker: &Maker, random: &mut Random) {
+fn damage(table: &mut Picture, few: Few, random: &mut Random) {
     let slot = any_slot(table, random);
     let at = random.below(table.slots.len() as u64) as usize;
     let heads = table.heads.len() as u64;
@@ -144,7 +150,7 @@ fn damage(table: &mut Picture, maker: &Maker, random: &mut Random) {
             table.slots[at] = record(random.below(3) as u8, key, any_use(table, random));
         }
         15 => {
-            let key = any_key(table, maker, random);
+            let key = any_key(table, few, random);
             table.slots[at] = record(table.slots[at].kind, key, table.slots[at].generation.max(table.slots[at].last_access));
         }
         16 => double(table, at, random),
@@ -199,15 +205,23 @@ fn shape(table: &mut Picture, random: &mut Random) {
     table.entries.resize(table.heap_len.min(MOST_SLOTS) as usize, (0, 0));
 }
 
-fn call(table: Picture, maker: &Maker, random: &mut Random) -> Case {
-    let capacity = table.capacity;
+fn of_token(code: u8) -> bool {
+    [PUBLISH, ABORT, VALIDATE].contains(&code)
+}
+
+fn call(table: Picture, few: Few, random: &mut Random) -> Case {
     // The first seven come more often: they have the most steps.
     let mut code = if random.chance(1, 2) { random.pick(&CALLS[..7]) } else { random.pick(&CALLS) };
-    let of_token = |code| [PUBLISH, ABORT, VALIDATE].contains(&code);
     if of_token(code) && table.slots.iter().all(|slot| slot.kind != LOADING) && random.chance(4, 5) {
         code = random.pick(&[ACCESS, RESIZE, RECLAIM]);
     }
-    let mut token = Token { slot: 0, generation: 0, key: any_key(&table, maker, random), access_sequence: any_use(&table, random) };
+    call_of(code, table, few, random)
+}
+
+/// The call of that code on the table, with arguments that fit it, mostly.
+pub fn call_of(code: u8, table: Picture, few: Few, random: &mut Random) -> Case {
+    let capacity = table.capacity;
+    let mut token = Token { slot: 0, generation: 0, key: any_key(&table, few, random), access_sequence: any_use(&table, random) };
     let wanted = if of_token(code) { LOADING } else { CLEAN };
     let slots: Vec<usize> = (0..table.slots.len()).filter(|slot| table.slots[*slot].kind == wanted).collect();
     token.slot = any_slot(&table, random).into();
@@ -219,7 +233,7 @@ fn call(table: Picture, maker: &Maker, random: &mut Random) -> Case {
         }
     }
     if code == ACCESS && random.chance(1, 2) {
-        token.key = maker.keys.key(90 + random.below(4));
+        token.key = few.keys.key(90 + random.below(4));
     }
     if wanted == LOADING && random.chance(1, 8) {
         token.generation = token.generation.wrapping_add(1);

@@ -41,6 +41,13 @@ impl Keys {
     }
 }
 
+/// The first keys of a family.
+#[derive(Clone, Copy)]
+pub struct Few {
+    pub keys: Keys,
+    pub count: u64,
+}
+
 /// How often each code 2 to 9 comes in a run of mixed calls.
 type Weights = [u64; 8];
 
@@ -183,21 +190,11 @@ impl Maker {
     }
 
     fn mixed(&mut self, calls: u64, weights: &Weights) {
-        let total = weights.iter().sum();
         for _ in 0..calls {
             if self.left == 0 {
                 return;
             }
-            let mut at = self.random.below(total);
-            let code = weights.iter().position(|weight| {
-                if at < *weight {
-                    true
-                } else {
-                    at -= weight;
-                    false
-                }
-            });
-            let code = ACCESS + code.unwrap() as u8;
+            let code = ACCESS + self.random.weighted(weights) as u8;
             let key = self.random.below(self.key_count);
             match code {
                 ACCESS => {

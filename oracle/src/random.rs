@@ -29,6 +29,17 @@ impl Random {
         self.below(of) < times
     }
 
+    /// A place of the list, each as often as its weight says.
+    pub fn weighted(&mut self, weights: &[u64]) -> usize {
+        let mut at = self.below(weights.iter().sum());
+        let found = weights.iter().position(|weight| {
+            let found = at < *weight;
+            at = at.saturating_sub(*weight);
+            found
+        });
+        found.expect("a weight that is not 0")
+    }
+
     pub fn pick<A: Copy>(&mut self, from: &[A]) -> A {
         from[self.below(from.len() as u64) as usize]
     }

@@ -4,7 +4,7 @@
 use crate::calls::{self, Differences, STALE};
 use crate::past::Past;
 use crate::picture::{NONE, Picture, put};
-use crate::{Access, CacheKey, Maintained, Table, Token};
+use crate::{Access, CacheKey, Gate, Maintained, Table, Token};
 
 pub const RECORD: usize = 24;
 pub const NEW: u8 = 1;
@@ -134,7 +134,7 @@ impl Sheet {
             }
             RESIZE => {
                 let mut list = vec![0; table.capacity()];
-                match calls::resize(table, number, pins, &mut list, differences)? {
+                match calls::resize(table, &mut Gate::default(), number, pins, &mut list, differences)? {
                     Maintained::Unchanged => line("unchanged", None),
                     Maintained::Busy => line("busy", None),
                     Maintained::Resized { capacity, overwritten } => {

@@ -1,18 +1,21 @@
 // SPDX-License-Identifier: Apache-2.0
-//! Writes sheets and made-up tables to standard output. The README says what each form makes.
+//! Writes sheets, made-up tables and gate cases to standard output. The README says what each form makes.
 
 use std::io::{BufWriter, Write, stdin, stdout};
 use std::process::ExitCode;
 
 use original::case::Case;
+use original::gate_case::GateCase;
 use original::make_aimed::aimed;
 use original::make_cases::cases;
+use original::make_gate::{every_list, lists};
+use original::make_gate_aimed::gate_aimed;
 use original::make_sheets::{Maker, exhaustive, exhaustive_deep};
 use original::sheet::Record;
 use original::written;
 
 const USAGE: &str = "usage: rust_gen SEED RECORDS | --exhaustive CAPACITY LENGTH | --deep CAPACITY LENGTH | --made-up SEED COUNT |
-    --aimed | --aimed-words | --records | --cases";
+    --aimed | --aimed-words | --gate SEED COUNT | --gate-exhaustive CAPACITY LENGTH | --gate-aimed | --gate-aimed-words | --records | --cases | --gate-cases";
 
 /// The lines of standard input that are not empty, each without what follows a # or =.
 fn lines() -> Vec<String> {
@@ -48,6 +51,21 @@ fn main() -> ExitCode {
             emit(&bytes);
         }
         ["--aimed-words"] => aimed().iter().for_each(|(word, _)| emit(format!("{word}\n").as_bytes())),
+        ["--gate", seed, count] => {
+            let mut bytes = Vec::new();
+            lists(number(seed), number(count), &mut |case| {
+                bytes.clear();
+                case.write_bytes(&mut bytes);
+                emit(&bytes);
+            });
+        }
+        ["--gate-exhaustive", capacity, length] => every_list(number(capacity), number(length), &mut emit),
+        ["--gate-aimed"] => {
+            let mut bytes = Vec::new();
+            gate_aimed().iter().for_each(|(_, case)| case.write_bytes(&mut bytes));
+            emit(&bytes);
+        }
+        ["--gate-aimed-words"] => gate_aimed().iter().for_each(|(words, _)| emit(format!("{words}\n").as_bytes())),
         ["--records"] => {
             for line in lines() {
                 let fields: Vec<u64> = line.split_whitespace().map(number).collect();
@@ -63,6 +81,16 @@ fn main() -> ExitCode {
                 let mut fields = line.split_whitespace().map(number);
                 let mut bytes = Vec::new();
                 Case::read(&mut |_| fields.next().expect("more numbers in the case")).write_bytes(&mut bytes);
+                assert_eq!(fields.next(), None, "fewer numbers in the case");
+                emit(&bytes);
+            }
+        }
+        ["--gate-cases"] => {
+            for line in lines() {
+                let mut fields = line.split_whitespace().map(number);
+                let mut bytes = Vec::new();
+                let case = GateCase::read(&mut |_| fields.next().expect("more numbers in the case"));
+                case.expect("a first number of 0 or 1 and the code of a call").write_bytes(&mut bytes);
                 assert_eq!(fields.next(), None, "fewer numbers in the case");
                 emit(&bytes);
             }

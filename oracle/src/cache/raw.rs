@@ -8,10 +8,13 @@ use std::collections::HashSet;
 use std::panic::{AssertUnwindSafe, catch_unwind, set_hook, take_hook};
 use std::sync::Once;
 
+pub mod gate;
+
+use self::gate::Gate;
 pub use super::key::CacheKey;
 pub use super::state::raw::Token;
 use super::state::{self, State};
-use super::{Budget, CacheError, CacheState, FileDataCache, Maintenance, OwnedPage, memory};
+use super::{Budget, CacheAccess, CacheError, CacheState, FileDataCache, Maintenance, OwnedPage, memory};
 use crate::picture::{CLEAN, NONE, Picture, Record, narrow};
 
 pub const STOP: u8 = 10;
@@ -83,6 +86,35 @@ impl Table {
         })
     }
 
+    /// The original `FileDataCache::access` through the gate, its admission set as loading is allowed, on a table without fault. On a damaged
+    /// one slots may be clean in the heap and not in the table, so that pages stand for pins no longer: there `access_with_victim` is run, with
+    /// loading allowed as the original's own `prefetch_allowed` says. Where both can be run they agree.
+    pub fn access_through(&mut self, gate: &mut Gate, key: CacheKey, allow: bool, pins: &[u8]) -> Result<Access, u8> {
+        let cache = self.cache(pins, &Dropped::default(), |kind, _| kind == CLEAN);
+        gate.set(&cache);
+        cache.set_admission(allow);
+        let before = self.picture();
+        let answer = self.access(key, cache.prefetch_allowed(), pins);
+        if before.fault().is_some() {
+            return answer;
+        }
+        let through = stopped(|| cache.access(key)).expect("no stop on a table without fault").map_err(cache_refusal);
+        let through = through.map(|access| match access {
+            CacheAccess::Hit(page) => Access::Hit(page.value().slot),
+            CacheAccess::LoadInProgress => Access::Loading,
+            CacheAccess::Load(reservation) => {
+                let token = reservation.into_token();
+                Access::Reserved { token, evicted: before.slots[token.slot].kind == CLEAN }
+            }
+            CacheAccess::CapacityBusy => Access::Busy,
+        });
+        *gate = Gate::of(&cache);
+        let after = cache.state.with(|control| control.table.take()).expect("a table after access").model;
+        assert_eq!((&through, after.picture()), (&answer, self.picture()), "access through the gate, and with loading allowed as it says");
+        self.0 = after;
+        through
+    }
+
     pub fn publish(&mut self, token: Token) -> Result<(), u8> {
         self.run(|state| state.publish(token.into()))
     }
@@ -123,17 +155,25 @@ impl Table {
         self.run(|state| Ok(state.cold_candidate(place)))
     }
 
-    /// The original `maintain_capacity`, every gate open. The list gets the new slot of each old one, or 65535.
-    pub fn resize(&mut self, asked: usize, pins: &[u8], list: &mut [u16]) -> Result<Maintained, u8> {
+    /// The original `maintain_capacity` through the gate; a stop leaves table and gate as they were. The list gets the new slot of each old one,
+    /// or 65535.
+    pub fn resize(&mut self, gate: &mut Gate, asked: usize, pins: &[u8], list: &mut [u16]) -> Result<Maintained, u8> {
         let dropped = Dropped::default();
         let cache = self.cache(pins, &dropped, |kind, pin| kind == CLEAN || pin != 0);
-        let answer = stopped(|| cache.maintain_capacity(asked)).ok_or(STOP)?.map_err(cache_refusal)?;
-        match answer {
-            Maintenance::Unchanged => return Ok(Maintained::Unchanged),
-            Maintenance::Busy => return Ok(Maintained::Busy),
-            Maintenance::Resized => {}
+        gate.set(&cache);
+        let answer = stopped(|| cache.maintain_capacity(asked)).ok_or(STOP)?;
+        *gate = Gate::of(&cache);
+        let new = cache.state.with(|control| control.table.take()).expect("a table after resize");
+        let unmade = match answer {
+            Ok(Maintenance::Resized) => None,
+            Ok(Maintenance::Unchanged) => Some(Ok(Maintained::Unchanged)),
+            Ok(Maintenance::Busy) => Some(Ok(Maintained::Busy)),
+            Err(error) => Some(Err(cache_refusal(error))),
+        };
+        if let Some(answer) = unmade {
+            self.0 = new.model;
+            return answer;
         }
-        let new = cache.state.with(|control| control.table.take()).expect("a table after Resized");
         self.fill_list(&new, pins, &dropped.borrow(), list);
         let mut pages = vec![NONE; list.len()];
         for (slot, page) in new.pages.iter().enumerate() {

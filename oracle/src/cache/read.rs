@@ -1,5 +1,5 @@
 // SPDX-License-Identifier: Apache-2.0
-//! Names that the original mod.rs and write.rs need. Nothing runs them.
+//! Names that the original mod.rs and write.rs need. Only `write_page` runs any of them, and its page has no bytes.
 
 use super::{CacheError, Refill};
 
