@@ -67,8 +67,7 @@ fn found(slot: Option<usize>) -> Answer {
 impl Answer {
     /// The beginning of a case's line: case, word, number, how many more numbers and these.
     pub fn write(&self, case: u64, out: &mut Vec<u8>) {
-        let value = self.line.number.map_or("-".to_string(), |value| value.to_string());
-        out.extend(format!("{case} {} {value}", self.line.word).bytes());
+        out.extend(format!("{case} {}", self.line).bytes());
         put(out, self.more.len() as u64);
         self.more.iter().for_each(|more| put(out, *more));
     }

@@ -317,9 +317,13 @@ fn others(all: &mut Aimed) {
         all.keeps(gate, Case { token, ..call(VALIDATE, &table) }, "done -");
         all.keeps(gate, of_file(LOOKUP, &table, 1), "hit 0");
         all.keeps(gate, of_file(LOOKUP, &table, 2), "none -");
+        let mut spent = table.clone();
+        spent.next_access_sequence = MAX;
+        all.keeps(gate, of_file(LOOKUP, &spent, 1), "refused 7");
         all.keeps(gate, of_file(PEEK_CLEAN, &table, 1), "found 0");
         all.keeps(gate, of_number(CLEAN_ENTRY, &table, 0), "found 0");
         all.keeps(gate, call(OLDEST_CLEAN, &table), "found 0");
+        all.keeps(gate, of_number(COLD_CANDIDATE, &table, 0), "found 0");
         all.keeps(gate, of_number(COLD_CANDIDATE, &table, 1), "none -");
         all.keeps(gate, of_number(REMOVE, &table, 0), "done -");
         all.keeps(gate, of_number(REMOVE, &table, 1), "refused 8");

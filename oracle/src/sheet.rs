@@ -65,6 +65,14 @@ pub struct Line {
     pub number: Option<u64>,
 }
 
+/// Word and number, or `-`.
+impl std::fmt::Display for Line {
+    fn fmt(&self, out: &mut std::fmt::Formatter<'_>) -> std::fmt::Result {
+        let number = self.number.map_or("-".to_string(), |number| number.to_string());
+        write!(out, "{} {number}", self.word)
+    }
+}
+
 pub fn line(word: &'static str, number: impl Into<Option<usize>>) -> Line {
     Line { word, number: number.into().map(|number| number as u64) }
 }
@@ -161,8 +169,7 @@ impl Sheet {
     /// A line of `runsheet`, without its end.
     pub fn write_line(&self, number: u64, line: Line, out: &mut Vec<u8>) {
         let (clean, loading) = self.table.as_ref().map_or((0, 0), |table| (table.clean(), table.loading()));
-        let value = line.number.map_or("-".to_string(), |value| value.to_string());
-        out.extend(format!("{number} {} {value} {clean} {loading}", line.word).bytes());
+        out.extend(format!("{number} {line} {clean} {loading}").bytes());
     }
 
     /// What the trace has after a line: the table, the pins, and the places past the lengths, the pins' last. On a sheet these are all 0: the table
