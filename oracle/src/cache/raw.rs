@@ -8,6 +8,7 @@ use std::collections::HashSet;
 use std::panic::{AssertUnwindSafe, catch_unwind, set_hook, take_hook};
 use std::sync::Once;
 
+#[path = "gate_raw.rs"]
 pub mod gate;
 
 use self::gate::Gate;
