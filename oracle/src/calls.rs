@@ -159,6 +159,7 @@ pub fn resize(
         let pins: Vec<u8> = (0..slots).map(|slot| pins.get(slot).copied().unwrap_or(0)).collect();
         let mut gate = before;
         let answer = table.clone().resize(&mut gate, asked, &pins, &mut vec![0; slots]);
+        assert!(answer != Err(INVALID_CAPACITY) || gate == before, "1 comes before the gate");
         let past = gate.generation != before.generation || answer == Err(STOP);
         (answer, past)
     };

@@ -16,7 +16,6 @@ pub const BEGIN_DIRTY: u8 = 18;
 pub const END_DIRTY: u8 = 19;
 pub const TURNS: [u8; 4] = [BEGIN_PAUSE, END_PAUSE, BEGIN_DIRTY, END_DIRTY];
 
-#[derive(Clone, Default)]
 pub struct GateCase {
     /// The gate that comes with the case, and then its table too; without one the call goes on from what the call before left.
     pub gate: Option<Gate>,

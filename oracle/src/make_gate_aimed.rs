@@ -93,6 +93,17 @@ fn refusals(all: &mut Aimed) {
     }
 }
 
+/// As many pin bytes, and as long a list, as a case can have.
+fn lengths(all: &mut Aimed) {
+    let pins = vec![1; u16::MAX.into()];
+    let table = clean(2, [1, 2]);
+    let gate = [1, 1, 1, MAX];
+    all.keeps(gate, Case { list_len: u16::MAX, ..of_number(RESIZE, &table, 2) }, "refused 4");
+    all.keeps(gate, Case { pins: pins.clone(), ..of_number(RESIZE, &table, 2) }, "refused 3");
+    all.keeps(gate, Case { pins: pins.clone(), ..of_file(ACCESS, &table, 1) }, "refused 3");
+    all.on(gate, Case { pins, list_len: u16::MAX, ..call(BEGIN_PAUSE, &table) }, "done -", [2, 1, 1, MAX]);
+}
+
 /// A pause or a dirty page: Busy, and nothing changes, whatever would come behind.
 fn shut(all: &mut Aimed) {
     let table = clean(2, [1, 2]);
@@ -360,7 +371,7 @@ pub fn gate_aimed() -> Vec<(String, GateCase)> {
     all.then(call(BEGIN_PAUSE, &Picture::default()), "done -", [1, 0, 0, 0]);
     all.then(of_number(NEW, &Picture::default(), 257), "refused 2", [1, 0, 0, 0]);
     all.then(of_number(NEW, &Picture::default(), 2), "made 2", OPEN);
-    for part in [refusals, shut, equal, loads, spent, undone, attempts, turns, access, others, places] {
+    for part in [refusals, lengths, shut, equal, loads, spent, undone, attempts, turns, access, others, places] {
         part(&mut all);
     }
     all.0

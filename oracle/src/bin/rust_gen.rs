@@ -24,6 +24,24 @@ fn lines() -> Vec<String> {
     text.lines().map(told).filter(|line| !line.is_empty()).collect()
 }
 
+fn bytes(write: impl FnOnce(&mut Vec<u8>)) -> Vec<u8> {
+    let mut out = Vec::new();
+    write(&mut out);
+    out
+}
+
+fn number(word: &str) -> u64 {
+    word.parse().unwrap_or_else(|_| panic!("{word} is no number. {USAGE}"))
+}
+
+/// A case of the numbers of a line; `read` takes one after the other.
+fn case<C>(line: &str, read: impl FnOnce(&mut dyn FnMut(usize) -> u64) -> C) -> C {
+    let mut fields = line.split_whitespace().map(number);
+    let case = read(&mut |_| fields.next().expect("more numbers in the case"));
+    assert_eq!(fields.next(), None, "fewer numbers in the case");
+    case
+}
+
 fn main() -> ExitCode {
     let words: Vec<String> = std::env::args().skip(1).collect();
     let words: Vec<&str> = words.iter().map(String::as_str).collect();
@@ -33,68 +51,33 @@ fn main() -> ExitCode {
             std::process::exit(0);
         }
     };
-    let number = |word: &str| word.parse::<u64>().unwrap_or_else(|_| panic!("{word} is no number. {USAGE}"));
     match words[..] {
         ["--exhaustive", capacity, length] => exhaustive(number(capacity) as u32, number(length) as u32, &mut emit),
         ["--deep", capacity, length] => exhaustive_deep(number(capacity) as u32, number(length) as u32, &mut emit),
-        ["--made-up", seed, count] => {
-            let mut bytes = Vec::new();
-            cases(number(seed), number(count), &mut |case| {
-                bytes.clear();
-                case.write_bytes(&mut bytes);
-                emit(&bytes);
-            });
-        }
-        ["--aimed"] => {
-            let mut bytes = Vec::new();
-            aimed().iter().for_each(|(_, case)| case.write_bytes(&mut bytes));
-            emit(&bytes);
-        }
+        ["--made-up", seed, count] => cases(number(seed), number(count), &mut |case| emit(&bytes(|out| case.write_bytes(out)))),
+        ["--aimed"] => aimed().iter().for_each(|(_, case)| emit(&bytes(|out| case.write_bytes(out)))),
         ["--aimed-words"] => aimed().iter().for_each(|(word, _)| emit(format!("{word}\n").as_bytes())),
-        ["--gate", seed, count] => {
-            let mut bytes = Vec::new();
-            lists(number(seed), number(count), &mut |case| {
-                bytes.clear();
-                case.write_bytes(&mut bytes);
-                emit(&bytes);
-            });
-        }
+        ["--gate", seed, count] => lists(number(seed), number(count), &mut |case| emit(&bytes(|out| case.write_bytes(out)))),
         ["--gate-exhaustive", capacity, length] => every_list(number(capacity), number(length), &mut emit),
-        ["--gate-aimed"] => {
-            let mut bytes = Vec::new();
-            gate_aimed().iter().for_each(|(_, case)| case.write_bytes(&mut bytes));
-            emit(&bytes);
-        }
+        ["--gate-aimed"] => gate_aimed().iter().for_each(|(_, case)| emit(&bytes(|out| case.write_bytes(out)))),
         ["--gate-aimed-words"] => gate_aimed().iter().for_each(|(words, _)| emit(format!("{words}\n").as_bytes())),
         ["--records"] => {
             for line in lines() {
                 let fields: Vec<u64> = line.split_whitespace().map(number).collect();
                 let [code, allow, kind, place, value, file, index] = fields[..] else { panic!("not seven numbers: {line}") };
                 let [code, allow, kind, place] = [code, allow, kind, place].map(|field| u8::try_from(field).expect("a byte"));
-                let mut bytes = Vec::new();
-                Record { code, allow, kind, place, number: u32::try_from(value).expect("32 bits"), file, index }.write(&mut bytes);
-                emit(&bytes);
+                let record = Record { code, allow, kind, place, number: u32::try_from(value).expect("32 bits"), file, index };
+                emit(&bytes(|out| record.write(out)));
             }
         }
-        ["--cases"] => {
-            for line in lines() {
-                let mut fields = line.split_whitespace().map(number);
-                let mut bytes = Vec::new();
-                Case::read(&mut |_| fields.next().expect("more numbers in the case")).write_bytes(&mut bytes);
-                assert_eq!(fields.next(), None, "fewer numbers in the case");
-                emit(&bytes);
-            }
-        }
-        ["--gate-cases"] => {
-            for line in lines() {
-                let mut fields = line.split_whitespace().map(number);
-                let mut bytes = Vec::new();
-                let case = GateCase::read(&mut |_| fields.next().expect("more numbers in the case"));
-                case.expect("a first number of 0 or 1 and the code of a call").write_bytes(&mut bytes);
-                assert_eq!(fields.next(), None, "fewer numbers in the case");
-                emit(&bytes);
-            }
-        }
+        ["--cases"] => lines().iter().for_each(|line| {
+            let case = case(line, |mut take| Case::read(&mut take));
+            emit(&bytes(|out| case.write_bytes(out)));
+        }),
+        ["--gate-cases"] => lines().iter().for_each(|line| {
+            let case = case(line, |mut take| GateCase::read(&mut take)).expect("a first number of 0 or 1 and the code of a call");
+            emit(&bytes(|out| case.write_bytes(out)));
+        }),
         [seed, records] => {
             let mut maker = Maker::new(number(seed), number(records));
             while maker.left > 0 {

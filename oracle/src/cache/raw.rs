@@ -87,9 +87,9 @@ impl Table {
         })
     }
 
-    /// The original `FileDataCache::access` through the gate, its admission set as loading is allowed, on a table without fault. On a damaged
-    /// one slots may be clean in the heap and not in the table, so that pages stand for pins no longer: there `access_with_victim` is run, with
-    /// loading allowed as the original's own `prefetch_allowed` says. Where both can be run they agree.
+    /// The original `FileDataCache::access` through the gate, its admission set as loading is allowed, on a table without fault. The heap of a damaged
+    /// one may name a slot that has no page, which the original passes over and document 01 does not: there `access_with_victim` is run, with
+    /// loading allowed as the original's own `prefetch_allowed` says. Where both can be run they must agree.
     pub fn access_through(&mut self, gate: &mut Gate, key: CacheKey, allow: bool, pins: &[u8]) -> Result<Access, u8> {
         let cache = self.cache(pins, &Dropped::default(), |kind, _| kind == CLEAN);
         gate.set(&cache);
