@@ -1,6 +1,6 @@
 -- SPDX-License-Identifier: Apache-2.0
--- A later Busy with the mark set: 129 slots, 65 clean keys whose sums are multiples of 256, a load out over which resize marks the gate, its abort, and a
--- resize to 1 with the 65 pinned. In 128 slots they share a bucket, whose chain refuses the 65th. Assumes nothing.
+-- A later Busy with the mark set, by the shortest list: in 129 slots 65 keys are reserved whose sums are multiples of 256, resize marks the gate over them,
+-- they are published, and resize is asked again with the 65 pinned. In 128 slots they share a bucket, whose chain refuses the 65th. Assumes nothing.
 use Prim.Native.Nat.{ℕ, zero, suc, _+_, _*_}
 use native.Mathlib.Omega.{arith}
 use mathlib.Core.Path.{_≡_, refl}
@@ -17,20 +17,23 @@ use Rattle.gate_ledger.specs.Opened.{opened}
 use Rattle.gate_ledger.proofs.Demand3.{demand3-gated}
 use Rattle.gate_ledger.proofs.Samples.{meetsAll, fair-all}
 
--- the slot's key reserved and published, for so many slots from `slot` on
-unfoldable filled : ℕ → ℕ → List Call
-filled zero slot = []
-filled (suc n) slot =
-    call (Plain.access (key (256 * slot)) true (replicate 129 0)) ∷ call (Plain.publish (token slot (slot + 1) (256 * slot) (slot + 1))) ∷ filled n (slot + 1)
+-- a key for each of so many slots from `slot` on: reserved, and published
+unfoldable reserves : ℕ → ℕ → List Call
+reserves zero slot = []
+reserves (suc n) slot = call (Plain.access (key (256 * slot)) true (replicate 129 0)) ∷ reserves n (slot + 1)
+
+unfoldable publishes : ℕ → ℕ → List Call
+publishes zero slot = []
+publishes (suc n) slot = call (Plain.publish (token slot (slot + 1) (256 * slot) (slot + 1))) ∷ publishes n (slot + 1)
 
 abbrev small : Call
 small = call (Plain.resize 1 (replicate 65 1 ++ replicate 64 0) (replicate 129 7))
 
 unfoldable pub later : List Call
-unfolding filled
-later = filled 65 0 ++ (call (Plain.access (key 1) true (replicate 129 0)) ∷ small ∷ call (Plain.abort (token 65 66 1 66)) ∷ small ∷ [])
+unfolding reserves publishes
+later = reserves 65 0 ++ (small ∷ publishes 65 0 ++ (small ∷ []))
 
--- the mark of the first is as it was, and the second is counted
+-- the mark is as it was, and the second resize is counted
 later-gate : run rules (start 129) later .gate ≡ gates.gateOf 0 0 true 1
 unfolding opened later
 later-gate = refl
