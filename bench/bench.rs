@@ -27,6 +27,9 @@ struct Sheet {
     counted: usize,
 }
 
+/// What makes the record of a call from the file of its key.
+type Call = fn(u64) -> [u64; 3];
+
 /// A record of document 01 as three numbers of 8 bytes, low byte first. The key is (file, 0, 0).
 fn record(code: u8, place: usize, number: usize, file: u64) -> [u64; 3] {
     [u64::from(code) | 1 << 8 | (place as u64 % 16) << 24 | (number as u64) << 32, file, 0]
@@ -38,6 +41,11 @@ fn new(capacity: usize) -> [u64; 3] {
 
 fn access(file: u64) -> [u64; 3] {
     record(2, file as usize, 0, file)
+}
+
+/// Access through the gate, a code that crates/bench has beside document 01's.
+fn through(file: u64) -> [u64; 3] {
+    record(10, file as usize, 0, file)
 }
 
 fn publish(file: u64) -> [u64; 3] {
@@ -94,7 +102,7 @@ fn sheets(capacity: usize, calls: usize) -> Vec<Sheet> {
     let size = capacity as u64;
     let tables = calls / capacity;
     let mut all = Vec::new();
-    for (name, call) in [("access, hit", access as fn(u64) -> [u64; 3]), ("lookup, hit", lookup)] {
+    for (name, call) in [("access, hit", access as Call), ("access through the gate, hit", through), ("lookup, hit", lookup)] {
         let mut sheet = Sheet::new(name, capacity);
         sheet.full();
         let mut random = 1_u64;
@@ -104,18 +112,22 @@ fn sheets(capacity: usize, calls: usize) -> Vec<Sheet> {
         }
         all.push(sheet);
     }
-    let mut sheet = Sheet::new("access, miss into a free slot", capacity);
-    for _ in 0..tables {
-        sheet.take(new(capacity));
-        sheet.files().for_each(|file| sheet.count(access(file)));
+    for (name, call) in [("access, miss into a free slot", access as Call), ("access through the gate, miss into a free slot", through)] {
+        let mut sheet = Sheet::new(name, capacity);
+        for _ in 0..tables {
+            sheet.take(new(capacity));
+            sheet.files().for_each(|file| sheet.count(call(file)));
+        }
+        all.push(sheet);
     }
-    all.push(sheet);
-    let mut sheet = Sheet::new("access, miss that evicts", capacity);
-    for _ in 0..tables {
-        sheet.full();
-        sheet.files().for_each(|file| sheet.count(access(size + file)));
+    for (name, call) in [("access, miss that evicts", access as Call), ("access through the gate, miss that evicts", through)] {
+        let mut sheet = Sheet::new(name, capacity);
+        for _ in 0..tables {
+            sheet.full();
+            sheet.files().for_each(|file| sheet.count(call(size + file)));
+        }
+        all.push(sheet);
     }
-    all.push(sheet);
     let mut sheet = Sheet::new("access that evicts, and publish (each a call)", capacity);
     sheet.full();
     for file in 1..=calls as u64 / 2 {
@@ -123,7 +135,7 @@ fn sheets(capacity: usize, calls: usize) -> Vec<Sheet> {
         sheet.count(publish(size + file));
     }
     all.push(sheet);
-    for (name, call) in [("publish", publish as fn(u64) -> [u64; 3]), ("abort", abort)] {
+    for (name, call) in [("publish", publish as Call), ("abort", abort)] {
         let mut sheet = Sheet::new(name, capacity);
         for _ in 0..tables {
             sheet.take(new(capacity));

@@ -7,6 +7,7 @@ use super::super::{Budget, CacheState, FileDataCache, Maintenance, OwnedPage, me
 use super::{CacheKey, Token};
 use crate::sheet::{RECORD, Record};
 use hyper::mm::FallibleArc;
+use std::hint::black_box;
 use std::io::Write;
 
 /// Where a sheet's calls find the table.
@@ -85,6 +86,20 @@ pub fn run(sheet: &[u64], maintained: bool) -> u64 {
     if maintained { run_in::<Cache>(sheet) } else { run_in::<State>(sheet) }
 }
 
+/// The number of an access; a reservation puts its token in the named place.
+fn accessed(answer: Result<state::Access, state::Error>, place: &mut LoadToken) -> u64 {
+    match answer {
+        Ok(state::Access::Hit { slot }) => 1000 + slot as u64,
+        Ok(state::Access::LoadInProgress) => 2000,
+        Ok(state::Access::Reserved { token, evicted }) => {
+            *place = token;
+            (if evicted { 4000 } else { 3000 }) + token.slot() as u64
+        }
+        Ok(state::Access::CapacityBusy) => 5000,
+        Err(_) => 0,
+    }
+}
+
 fn run_in<P: Place>(sheet: &[u64]) -> u64 {
     let mut place = P::new(1);
     let mut tokens: [LoadToken; 16] = [Token::default().into(); 16];
@@ -104,16 +119,13 @@ fn run_in<P: Place>(sheet: &[u64]) -> u64 {
                 place = P::new(number);
                 6000
             }
-            2 => match place.table(|table| table.access_with_victim(key, true, |slot| pins[slot] == 0)) {
-                Ok(state::Access::Hit { slot }) => 1000 + slot as u64,
-                Ok(state::Access::LoadInProgress) => 2000,
-                Ok(state::Access::Reserved { token: given, evicted }) => {
-                    tokens[token] = given;
-                    (if evicted { 4000 } else { 3000 }) + given.slot() as u64
-                }
-                Ok(state::Access::CapacityBusy) => 5000,
-                Err(_) => 0,
-            },
+            2 => accessed(place.table(|table| table.access_with_victim(key, true, |slot| pins[slot] == 0)), &mut tokens[token]),
+            10 => {
+                // The test of the original's `FileDataCache::access`. The gate is open, which the compiler is not to know.
+                let (maintenance_pending, admission_pauses) = black_box((false, 0_usize));
+                let allow = !maintenance_pending && admission_pauses == 0;
+                accessed(place.table(|table| table.access_with_victim(key, allow, |slot| pins[slot] == 0)), &mut tokens[token])
+            }
             3 => place.publish(tokens[token]).map_or(0, |()| 6000),
             4 => place.table(|table| table.abort(tokens[token])).map_or(0, |()| 6000),
             5 => match place.table(|table| table.lookup(key)) {

@@ -27,6 +27,9 @@ use Rattle.maintenance_reclaim.specs.Answers.{Reclaiming}
 use Rattle.maintenance_reclaim.specs.Reclaim.{reclaim}
 use Rattle.maintenance_resize.specs.Answers.{Resizing}
 use Rattle.maintenance_resize.specs.Resize.{resize}
+use Rattle.gate.specs.declared.Gate.{Gate}
+use Rattle.gate.specs.Gate.{atFirst}
+use Rattle.passage.specs.Access.{accessThrough}
 use Rattle.bench.specs.declared.Sum.{Sum}
 use Rattle.bench.specs.Sum.{noSum, plus, wordOf, accessNumber, doneNumber, foundNumber, sizeNumber}
 use Rattle.bench.specs.Run.{Running, running, noToken, start, lentPins, lentList, placed, afterDone, afterAccess, afterLookup, afterResize, afterReclaim, runCode, codeOf, placeOf, numberOf, keyOf, runRecord, runFrom, total}
@@ -113,6 +116,16 @@ module _ (t : State) (tokens : List LoadToken) (sum : Sum) (head file index : �
             unfolding runRecord runCode afterResize lentPins lentList
             resize-goes c8 e m more = rw (more, m, ne-eqb _ _ n1, ne-eqb _ _ n2, ne-eqb _ _ n3, ne-eqb _ _ n4, ne-eqb _ _ n5, eq-eqb _ _ c8, ← l, ← e)
 
-            pub reclaim-goes : {a : Reclaiming} {s : Sum} {n : ℕ} → (codeOf head ≡ 8 → ⊥) → a ≡ reclaim t (numberOf head) (take k (replicate 256 0)) → n ≡ wordOf 10000 (a .count) → s ≡ plus sum n → Goes (a .table) tokens s
-            unfolding runRecord runCode afterReclaim lentPins
-            reclaim-goes n8 e m more = rw (more, m, ne-eqb _ _ n1, ne-eqb _ _ n2, ne-eqb _ _ n3, ne-eqb _ _ n4, ne-eqb _ _ n5, ne-eqb _ _ n8, ← l, ← e)
+            module _ (n8 : codeOf head ≡ 8 → ⊥) where
+              pub through-goes : {a : After Given} {g : Gate} {s : Sum} {n : ℕ} {later : List LoadToken} → codeOf head ≡ 10 → g ≡ atFirst
+                  → a ≡ accessThrough t g (keyOf head file index) true (take k (replicate 256 0))
+                  → later ≡ placed tokens (placeOf head) (a .answer) → n ≡ accessNumber (a .answer) → s ≡ plus sum n → Goes (a .table) later s
+              unfolding runRecord runCode afterAccess lentPins
+              through-goes c10 g e p m more =
+                  rw (more, m, p, ne-eqb _ _ n1, ne-eqb _ _ n2, ne-eqb _ _ n3, ne-eqb _ _ n4, ne-eqb _ _ n5, ne-eqb _ _ n8, eq-eqb _ _ c10, ← l, ← g, ← e)
+
+              pub reclaim-goes : {a : Reclaiming} {s : Sum} {n : ℕ} → (codeOf head ≡ 10 → ⊥) → a ≡ reclaim t (numberOf head) (take k (replicate 256 0))
+                  → n ≡ wordOf 10000 (a .count) → s ≡ plus sum n → Goes (a .table) tokens s
+              unfolding runRecord runCode afterReclaim lentPins
+              reclaim-goes n10 e m more =
+                  rw (more, m, ne-eqb _ _ n1, ne-eqb _ _ n2, ne-eqb _ _ n3, ne-eqb _ _ n4, ne-eqb _ _ n5, ne-eqb _ _ n8, ne-eqb _ _ n10, ← l, ← e)

@@ -23,6 +23,8 @@ use Rattle.maintenance_reclaim.specs.Answers.{Reclaiming}
 use Rattle.maintenance_reclaim.specs.Reclaim.{reclaim}
 use Rattle.maintenance_resize.specs.Answers.{Resizing}
 use Rattle.maintenance_resize.specs.Resize.{resize}
+use Rattle.gate.specs.Gate.{atFirst}
+use Rattle.passage.specs.Access.{accessThrough}
 use Rattle.bench.specs.declared.Sum.{Sum}
 use Rattle.bench.specs.Sum.{noSum, plus, wordOf, accessNumber, doneNumber, foundNumber, sizeNumber}
 
@@ -85,7 +87,8 @@ afterResize x a = added x (a .table) (sizeNumber (a .answer))
 unfoldable pub afterReclaim : Running → Reclaiming → Running
 afterReclaim x a = added x (a .table) (wordOf 10000 (a .count))
 
--- the calls by their codes; reclaim is 9, and every code that is not timed counts as one
+-- the calls by their codes; 10, which no run sheet has, is access through a gate as at first; reclaim is 9, and every code that is not timed
+-- counts as one
 unfoldable pub runCode : Running → ℕ → ℕ → ℕ → CacheKey → Running
 runCode x code place number key =
     if eqb code 1 then afterDone x (new number) else
@@ -94,6 +97,7 @@ runCode x code place number key =
     if eqb code 4 then afterDone x (abort (x .table) (tokenAt x place)) else
     if eqb code 5 then afterLookup x (lookup (x .table) key) else
     if eqb code 8 then afterResize x (resize (x .table) number (lentPins (x .table)) (lentList (x .table))) else
+    if eqb code 10 then afterAccess x place (accessThrough (x .table) atFirst key true (lentPins (x .table))) else
     afterReclaim x (reclaim (x .table) number (lentPins (x .table)))
 
 -- a record: three numbers of 8 bytes. The first holds code, kind, token place and number, the others are file and index.

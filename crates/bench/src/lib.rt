@@ -1,6 +1,6 @@
 // SPDX-License-Identifier: Apache-2.0
 // What bench/ times of the port: a run sheet through the calls, one after the other on one table in a local. Only the calls that are timed
-// are taken, and no line is written. The local is an answer of access, so that access, the most frequent call, hands its table back to where it
+// are taken, and no line is written. One code is added to a run sheet's: 10 is access through a gate, which stays as at first. The local is an answer of access, so that access, the most frequent call, hands its table back to where it
 // stays: that is one copy of the table less than a local of the type State costs.
 ghost use mathlib.Core.Path.{_≡_};
 ghost use Prim.Native.Nat.{min};
@@ -10,6 +10,7 @@ ghost use Rattle.maintenance_resize.specs.Answers.{sizeAnswer};
 ghost use Rattle.bench.specs.Sum.{plus, wordOf, accessNumber, doneNumber, foundNumber, sizeNumber};
 ghost use Rattle.bench.specs.Run.{noToken, checksum};
 use basics::Done;
+use gate::Gate;
 use key::CacheKey;
 use maintenance_resize::Maintenance;
 use state::Access;
@@ -130,6 +131,7 @@ pub extern "C" fn tallboycrow_bench(sheet: &[u64]) -> u64
     let none = no_token();
     let mut tokens: [LoadToken; 16] = [none; 16];
     let pins: [u8; 256] = [0; 256];
+    let gate = Gate::new();
     let mut sum = Sum {
         first: 0,
         second: 0,
@@ -196,6 +198,13 @@ pub extern "C" fn tallboycrow_bench(sheet: &[u64]) -> u64
             held.state = next;
             let answer = maintained.answer;
             sum = add(sum, of_maintenance(answer));
+        } else if code == 10 {
+            held = passage::access(held.state, gate, key, true, &pins[..count]);
+            let answer = held.answer;
+            if let Access::Reserved(token, _) = answer {
+                tokens[place] = token;
+            }
+            sum = add(sum, of_access(answer));
         } else {
             let batch = maintenance_reclaim::reclaim(held.state, number, &pins[..count]);
             let next = batch.state;

@@ -12,19 +12,19 @@ use Rattle.state.specs.Answers.{accessAnswer}
 use Rattle.bench.specs.Sum.{accessNumber}
 use Rattle.bench.specs.Run.{running, start, runFrom, total, checksum}
 use Rattle.bench.proofs.Cases.{run-end, run-step, fits-on, put, unput, starts, total-told, new-goes, access-goes, publish-goes, abort-goes, lookup-goes}
-use Rattle.bench.proofs.Cases.{resize-goes, reclaim-goes}
+use Rattle.bench.proofs.Cases.{resize-goes, through-goes, reclaim-goes}
 use Rattle.bench.proofs.tallboycrow_bench.Statement.{statement}
 use Rattle.bench.proofs.tallboycrow_bench.Tie as tie
 
 abbrev Inv-loop : tie.InvT-loop
-Inv-loop sheet held₀ tokens₀ pins sum₀ at₀ left₀ held tokens sum at left =
+Inv-loop sheet held₀ tokens₀ pins gate sum₀ at₀ left₀ held tokens sum at left =
     (at + left * 3 ≤ length sheet) × (runFrom left sheet at (running (held .state) tokens sum) ≡ runFrom (length sheet / 3) sheet 0 start)
 
 abbrev μ-loop : tie.MeasureT-loop
-μ-loop sheet held₀ tokens₀ pins sum₀ at₀ left₀ held tokens sum at left = left
+μ-loop sheet held₀ tokens₀ pins gate sum₀ at₀ left₀ held tokens sum at left = left
 
 loop-holds : tie.Need-loop-holds Inv-loop μ-loop
-loop-holds c = (search needs, ap (runFrom _ _ 0) (starts (c .before .before .try-new .ensures) (c .no-token .ensures)))
+loop-holds c = (search needs, ap (runFrom _ _ 0) (starts (c .before .before .before .try-new .ensures) (c .before .no-token .ensures)))
 
 loop-again : tie.Need-loop-again Inv-loop μ-loop
 loop-again c =
@@ -127,23 +127,48 @@ loop-again-6 c =
           ∙ inv .1,
     )
 
-slice-aggregate-reclaim : tie.Need-slice-aggregate-reclaim Inv-loop μ-loop
-slice-aggregate-reclaim c =
-    let lent = c .before .before .before .before .before .before .before .lent in
+slice-aggregate-access-2 : tie.Need-slice-aggregate-access-2 Inv-loop μ-loop
+slice-aggregate-access-2 c =
+    let lent = c .before .before .before .before .before .before .before .before .lent in
     sym (length-take-le (lent .result) (replicate 256 0) (omega (arith, lent .ensures)))
 
 loop-again-7 : tie.Need-loop-again-7 Inv-loop μ-loop
 loop-again-7 c =
     let before6 = c .before .before .before .before .before .before in
     let before12 = before6 .before .before .before .before .before .before in
-    let inv = before12 .before .before .before .before .loop .inv in
-    let loop-test = before12 .before .before .before .loop-test in (
+    let before18 = before12 .before .before .before .before .before .before in
+    let inv = before12 .before .before .before .before .before .loop .inv in
+    let loop-test = before12 .before .before .before .before .loop-test in
+    let access = c .before .before .before .access2 in
+    let match = c .before .before .match2 in
+    let e : match .answer ≡ access .result .answer = ⊎-elim (λ w. w .4 ∙ sym (w .1 .given .1)) (λ w. w .2) (match .came) in (
       fits-on _ _ _ (inv .0) (loop-test .taken),
       sym (run-step _ _ _ _ (loop-test .taken)
-          (reclaim-goes _ _ _ _ _ _ (before6 .before .before .before .before .if1 .left) (before6 .before .before .before .if2 .left)
-          (before6 .before .before .if3 .left) (before6 .before .if4 .left) (before6 .if5 .left)
-          (before6 .before .before .before .before .before .lent .ensures) (c .before .before .before .before .before .if6 .left)
-          (c .before .before .before .reclaim .ensures) (c .before .word .ensures) (c .add7 .ensures)))
+          (through-goes _ _ _ _ _ _ (before6 .before .before .before .before .before .if1 .left) (before6 .before .before .before .before .if2 .left)
+          (before6 .before .before .before .if3 .left) (before6 .before .before .if4 .left) (before6 .before .if5 .left) (before12 .lent .ensures)
+          (before6 .if6 .left) (c .before .before .before .before .before .if7 .taken) (before18 .new .ensures) (access .ensures)
+          (⊎-elim (λ w. w .3 ∙ sym (put _ _ (w .1 .given .1))) (λ w. w .1 ∙ sym (unput _ _ (access .result .answer) (w .0 .keys2))) (match .came))
+          (c .before .of-access2 .ensures ∙ ap (λ a. accessNumber (accessAnswer a)) e) (c .add7 .ensures)))
+          ∙ inv .1,
+    )
+
+slice-aggregate-reclaim : tie.Need-slice-aggregate-reclaim Inv-loop μ-loop
+slice-aggregate-reclaim c =
+    let lent = c .before .before .before .before .before .before .before .before .lent in
+    sym (length-take-le (lent .result) (replicate 256 0) (omega (arith, lent .ensures)))
+
+loop-again-8 : tie.Need-loop-again-8 Inv-loop μ-loop
+loop-again-8 c =
+    let before6 = c .before .before .before .before .before .before in
+    let before12 = before6 .before .before .before .before .before .before in
+    let inv = before12 .before .before .before .before .before .loop .inv in
+    let loop-test = before12 .before .before .before .before .loop-test in (
+      fits-on _ _ _ (inv .0) (loop-test .taken),
+      sym (run-step _ _ _ _ (loop-test .taken)
+          (reclaim-goes _ _ _ _ _ _ (before6 .before .before .before .before .before .if1 .left) (before6 .before .before .before .before .if2 .left)
+          (before6 .before .before .before .if3 .left) (before6 .before .before .if4 .left) (before6 .before .if5 .left) (before12 .lent .ensures)
+          (before6 .if6 .left) (c .before .before .before .before .before .if7 .left) (c .before .before .before .reclaim .ensures)
+          (c .before .word .ensures) (c .add8 .ensures)))
           ∙ inv .1,
     )
 
@@ -151,9 +176,9 @@ returns : tie.Need-returns Inv-loop μ-loop
 unfolding checksum
 returns c =
     let loop = c .before .before .before .before .before .before .before .before .before .loop in
-    total-told (loop .held .state) (loop .tokens) (loop .sum) (c .before .before .before .before .before .add8 .ensures)
-    (c .before .before .before .before .add9 .ensures) (c .before .before .before .add10 .ensures) (c .before .before .add11 .ensures)
-    (c .before .add12 .ensures) (c .add13 .ensures)
+    total-told (loop .held .state) (loop .tokens) (loop .sum) (c .before .before .before .before .before .add9 .ensures)
+    (c .before .before .before .before .add10 .ensures) (c .before .before .before .add11 .ensures) (c .before .before .add12 .ensures)
+    (c .before .add13 .ensures) (c .add14 .ensures)
     ∙ ap total (sym (run-end _ _ _ _ (c .before .before .before .before .before .before .before .before .loop-test .left)) ∙ loop .inv .1)
 
 pub tallboycrow-bench-spec : {M : Type 1} → statement M
@@ -162,6 +187,7 @@ tallboycrow-bench-spec =
     (tie.spec
     Inv-loop
     μ-loop
+    (λ c κs. search needs)
     (λ c κs. search needs)
     (λ c κs. search needs)
     loop-holds
@@ -221,12 +247,22 @@ tallboycrow-bench-spec =
     (λ c. search needs)
     loop-again-6
     (λ c. search needs)
+    slice-aggregate-access-2
+    (λ c κs. search needs)
+    (λ c. search needs)
+    (λ c. search needs)
+    (λ c. search needs)
+    (λ c κs. search needs)
+    (λ c κs. search needs)
+    (λ c. search needs)
+    loop-again-7
+    (λ c. search needs)
     slice-aggregate-reclaim
     (λ c κs. search needs)
     (λ c κs. search needs)
     (λ c κs. search needs)
     (λ c. search needs)
-    loop-again-7
+    loop-again-8
     (λ c κs. search needs)
     (λ c κs. search needs)
     (λ c κs. search needs)
