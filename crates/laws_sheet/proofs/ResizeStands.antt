@@ -109,7 +109,7 @@ module _ (t : State) (pins : List ℕ) (g : InOrder t pins) (lent : List ℕ) (l
     unfolding fresh empty
     granted pos small =
         elim (resize-law t (g .valid .0) (g .valid .1) asked lent list) [
-          | resizes.refused! m e ne ↦ absurd (resize-answers pos small m (rw e))
+          | resizes.refused! m e ne n7 ↦ absurd (resize-answers pos small m (rw e))
           | resizes.unchanged! e h ↦ rw e (record { order = g; counted = same n t pins g k; answer = refl })
           | resizes.busy! e h ↦ rw e (record { order = g; counted = same n t pins g k; answer = refl })
           | resizes.emptied! e q none hp lt ↦
