@@ -2,7 +2,7 @@
 -- Numbers and calls in bytes, as oracle/README.md has them.
 use Prim.Native.Nat.{ℕ, zero, suc, _+_, _*_, min}
 use mathlib.Core.Bool.{not}
-use mathlib.Core.List.{List}
+use mathlib.Core.List.{List, [], _∷_}
 use lib.Dec.{eqb}
 use lib.ListN.{getD}
 use Rattle.basics.specs.Numbers.{NONE}
@@ -26,6 +26,11 @@ byteAt bytes at = getD bytes at 0
 unfoldable pub low : ℕ → List ℕ → ℕ → ℕ
 low zero bytes at = 0
 low (suc n) bytes at = byteAt bytes at + 256 * low n bytes (over at 1)
+
+-- so many of them, of 8 bytes each
+unfoldable pub numbersAt : ℕ → List ℕ → ℕ → List ℕ
+numbersAt zero bytes at = []
+numbersAt (suc n) bytes at = low 8 bytes at ∷ numbersAt n bytes (over at 8)
 
 -- "file, kind, index of the key"
 abbrev pub keyAt : List ℕ → ℕ → CacheKey

@@ -5,7 +5,8 @@ ghost use mathlib.Core.Path.{_≡_};
 ghost use Prim.Native.Nat.{_+_, _≤_, _<_, min};
 ghost use lib.ListN.{length};
 ghost use Rattle.cases.specs.Places.{Within};
-ghost use Rattle.cases.specs.Bytes.{FAR as farthest, byteAt, low, keyAt, callAt};
+ghost use Rattle.cases.specs.Bytes.{FAR as farthest, byteAt, low, numbersAt, keyAt, callAt};
+ghost use Rattle.picture.specs.Table.{countNumbers};
 use basics::Done;
 use eviction::Entry;
 use eviction::EvictionHeap;
@@ -238,6 +239,7 @@ fn read_entries(bytes: &[u8], from: usize, count: usize) -> Entries
 
 pub fn read_table(bytes: &[u8], at: usize) -> Table
     ensures { λ r. ⌜ r .end ≤ farthest ⌝ }
+    ensures { λ r. ⌜ countNumbers (r .state) ≡ numbersAt 10 (now (bytes .entry)) at ⌝ }
 {
     let capacity = low_8(bytes, at) as usize;
     let counters = Counters {

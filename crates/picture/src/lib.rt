@@ -1,6 +1,6 @@
 // SPDX-License-Identifier: Apache-2.0
-// Tables in plain numbers, as oracle/README.md has them: what the programs `trace` and `made_up` share. As in `picture_numbers`, every function
-// writes from a place of `out` on and answers the place behind what it wrote, which is always within `out`.
+// Tables in plain numbers, as oracle/README.md has them: what the programs `trace`, `made_up` and `gate_trace` share. As in `picture_numbers`, every
+// function writes from a place of `out` on and answers the place behind what it wrote, which is always within `out`.
 ghost use mathlib.Core.Path.{_≡_};
 ghost use lib.ListN.{take, drop};
 ghost use Rattle.picture_numbers.specs.Wrote.{Wrote};
