@@ -1,7 +1,8 @@
 // SPDX-License-Identifier: Apache-2.0
 // What bench/ times of the port: a run sheet through the calls, one after the other on one table in a local. Only the calls that are timed
-// are taken, and no line is written. One code is added to a run sheet's: 10 is access through a gate, which stays as at first. The local is an answer of access, so that access, the most frequent call, hands its table back to where it
-// stays: that is one copy of the table less than a local of the type State costs.
+// are taken, and no line is written. One code is added to a run sheet's: 10 is access through a gate, which stays as at first. The local is an
+// answer of access, so that access, the most frequent call, hands its table back to where it stays: that is one copy of the table less than a
+// local of the type State costs.
 ghost use mathlib.Core.Path.{_≡_};
 ghost use Prim.Native.Nat.{min};
 ghost use Rattle.basics.specs.Answers.{doneAnswer};
