@@ -5,5 +5,4 @@ pub mod Maps
 pub mod Counts
 pub mod Keeps
 pub mod Capacities
-pub mod Tables
 pub mod Fills

@@ -4,19 +4,17 @@ use Prim.Native.Nat.{ℕ, zero, suc, _+_, _-_, _*_, _^_, _<_, _≤_}
 use native.Mathlib.Omega.{arith}
 use native.Mathlib.Nat.{zero-add, pow-suc}
 use mathlib.Core.Path.{_≡_, refl, sym, ap, _∙_}
-use mathlib.Core.Bool.{Bool, true, _&&_}
-use mathlib.Core.List.{List, [], _∷_}
-use lib.Dec.{ltb, leb, eqb}
+use lib.Dec.{leb}
+use lib.Count.{leadingZeros, leading-length}
 use lib.Pow.{pow-pos, pow-mono, pow-lt, pow-add}
-use borrow.Author.Tests.{leb-true, leb-false, ltb-true, eqb-true}
+use borrow.Author.Tests.{leb-true, leb-false}
 use Rattle.basics.specs.Numbers.{doubled, powerOver}
-use Rattle.basics.specs.Lists.{down, some?}
-use Rattle.basics.proofs.Tests.{yes!, no!, is, false-true, and-left, and-right}
+use Rattle.basics.proofs.Tests.{yes!, no!, is}
 use Rattle.key.specs.Bucket.{bucketCount}
-use Rattle.key.specs.Least.{LeastPower, isLeastPower}
+use Rattle.key.specs.Least.{LeastPower}
 
 -- exponents are in the order of their powers
-exponents : (i j : ℕ) → 2 ^ i ≤ 2 ^ j → i ≤ j
+pub exponents : (i j : ℕ) → 2 ^ i ≤ 2 ^ j → i ≤ j
 exponents i j h =
     elim (is (leb i j)) [
       | yes! e ↦ leb-true i j e
@@ -77,6 +75,16 @@ count-least c h = power-least (2 * c) (omega arith)
 pub count-half : (c : ℕ) → 0 < c → c ≤ 2 ^ 62 → bucketCount c ≡ 2 * powerOver c
 count-half c pos h = least-one (count-least c h) (twice pos (power-least c (omega arith)))
 
+-- Document 02, request 2: "The bucket count shall come from the number of leading zeros of the capacity's predecessor"
+pub count-zeros : (c : ℕ) → 0 < c → c ≤ 2 ^ 62 → bucketCount c ≡ 2 ^ (65 - leadingZeros 64 (c - 1))
+count-zeros c pos h =
+    let len = leading-length 64 (c - 1) (omega arith) in
+    let m : ℕ = len .0 in
+    let one-more : 65 - leadingZeros 64 (c - 1) ≡ suc m = omega (arith, len .1) in
+    let least : LeastPower (2 * c) (2 ^ suc m) =
+    record { power = (suc m, refl); over = omega (arith, len .2, pow-suc 2 m); least = λ k g. strict m k (omega (arith, len .3)) } in
+    rw one-more (least-one (count-least c h) least)
+
 -- a table has some buckets, and no more than its array holds
 pub some-bucket : (c : ℕ) → c ≤ 2 ^ 62 → 0 < bucketCount c
 some-bucket c h = let l = count-least c h in rw (l .power .1) (pow-pos (l .power .0))
@@ -94,36 +102,3 @@ counts-divide c d h hd =
     let le : 2 ^ i ≤ 2 ^ j = rw (p .power .1) at (p .least j (omega (arith, q .over, q .power .1))) in
     let sum : i + (j - i) ≡ j = omega (arith, exponents i j le) in
     (2 ^ (j - i), q .power .1 ∙ ap (λ (k : ℕ). 2 ^ k) (sym sum) ∙ pow-add 2 i (j - i) ∙ ap (λ (k : ℕ). k * 2 ^ (j - i)) (sym (p .power .1)))
-
--- one of the list passes the test
-some-passes : (p : ℕ → Bool) (l : List ℕ) → some? p l ≡ true → (k : ℕ) × (p k ≡ true)
-unfolding some?
-some-passes p [] e = absurd (false-true e)
-some-passes p (k ∷ l) e =
-    elim (is (p k)) [
-      | yes! q ↦ (k, q)
-      | no! q ↦ some-passes p l (rw q at e)
-    ]
-
--- what the computed test tells
-pub tested-least : (n p : ℕ) → isLeastPower n p ≡ true → LeastPower n p
-unfolding isLeastPower
-tested-least n p e =
-    let two = some? (λ (k : ℕ). eqb p (2 ^ k)) (down 10) in
-    let both = and-left (two && leb n p) (ltb p (2 * n)) e in
-    let some = some-passes (λ (k : ℕ). eqb p (2 ^ k)) (down 10) (and-left two (leb n p) both) in
-    let j : ℕ = some .0 in
-    let is-power : p ≡ 2 ^ j = eqb-true p (2 ^ j) (some .1) in
-    let below : p < 2 * n = ltb-true p (2 * n) (and-right (two && leb n p) (ltb p (2 * n)) e) in
-    record {
-      power = (j, is-power);
-      over = leb-true n p (and-right two (leb n p) both);
-      least = λ k h. rw is-power (lower j k (omega (arith, pow-suc 2 k)));
-    }
-  where
-    lower : (j k : ℕ) → 2 ^ j < 2 ^ suc k → 2 ^ j ≤ 2 ^ k
-    lower j k h =
-        elim (is (leb j k)) [
-          | yes! e ↦ pow-mono (leb-true j k e)
-          | no! e ↦ let z : 2 ^ suc k ≤ 2 ^ j = pow-mono (leb-false j k e) in absurd (omega arith)
-        ]

@@ -1,45 +1,20 @@
 -- SPDX-License-Identifier: Apache-2.0
--- `key::bucket_count` meets its contract: the table's rule is a test at each of its 256 entries, which antt computes. Assumes nothing.
-use Prim.Native.Nat.{ℕ, suc, _-_, _*_, _<_, _≤_}
-use mathlib.Core.Path.{_≡_, refl, sym, _∙_, ap}
-use mathlib.Core.Bool.{Bool, true, false}
-use mathlib.Core.List.{List, _++_}
-use lib.Dec.{T}
-use lib.ListN.{length, getD, replicate}
+-- `key::bucket_count` meets its contract: the shift is that of the law `count-zeros`, and loses no digit, since no table has more than 512 buckets.
+-- Assumes nothing.
+use Prim.Native.Nat.{ℕ, _-_, _*_, _%_, _^_, _<_, _≤_}
+use mathlib.Core.Path.{_≡_, sym, _∙_, ap}
 use native.Mathlib.Omega.{arith}
+use lib.Count.{leadingZeros, leading-le, leading-length}
 use borrow.Author.Needs.{needs}
 use Rattle.basics.specs.Try.{ok, refuse}
 use Rattle.basics.specs.declared.Done.{Done}
 use Rattle.basics.specs.Answers.{doneAnswer}
 use Rattle.basics.specs.Capacity.{needCapacity}
-use Rattle.basics.specs.Lists.{down, some?}
 use Rattle.basics.proofs.Capacities.{capacity-fits}
-use Rattle.basics.proofs.Tables.{everyEntry, at}
-use Rattle.key.specs.Least.{isLeastPower}
 use Rattle.key.specs.Bucket.{bucketCount, countFor}
-use Rattle.key.proofs.Least.{least-one, tested-least, count-least}
+use Rattle.key.proofs.Least.{exponents, count-zeros, few-buckets}
 use Rattle.key.proofs.bucket_count.Statement.{statement}
 use Rattle.key.proofs.bucket_count.Tie as tie
-
--- the entries of the code's table, in runs of equal ones
-counts : List ℕ
-counts = replicate 1 2 ++ replicate 1 4 ++ replicate 2 8 ++ replicate 4 16 ++ replicate 8 32 ++ replicate 16 64 ++ replicate 32 128 ++ replicate 64 256 ++ replicate 128 512
-
--- the entry k is the least power of two not below twice the capacity k + 1
-right : ℕ → ℕ → Bool
-right k x = isLeastPower (2 * suc k) x
-
--- so each entry of a table that passes the test is the bucket count of its capacity
-entry : (xs : List ℕ) → T (everyEntry right 0 xs) → length xs ≡ 256 → {c : ℕ} → (0 < c) × (c ≤ 256) → getD xs (c - 1) 0 ≡ bucketCount c
-unfolding right
-entry xs t n {c} f =
-    let last : c - 1 < length xs = omega arith in
-    let one : suc (c - 1) ≡ c = omega arith in
-    least-one (rw one at (tested-least (2 * suc (c - 1)) (getD xs (c - 1) 0) (passed _ (at right xs t (c - 1) last)))) (count-least c (omega arith))
-  where
-    passed : (b : Bool) → T b → b ≡ true
-    passed true t = refl
-    passed false t = absurd t
 
 -- what the check of the capacity told
 fits : {c : ℕ} {d : Done} → doneAnswer d ≡ needCapacity c → d ≡ Done.Done → (0 < c) × (c ≤ 256)
@@ -53,22 +28,33 @@ counted : (c : ℕ) {d : Done} {n : ℕ} → doneAnswer d ≡ needCapacity c →
 unfolding countFor
 counted c e q w = rw (← e, q, w)
 
+shifted : {c : ℕ} → (0 < c) × (c ≤ 256) → (1 * 2 ^ (65 - leadingZeros 64 (c - 1))) % 2 ^ 64 ≡ bucketCount c
+shifted {c} f = omega (arith, count-zeros c (f .0) (omega arith), few-buckets c (f .1))
+
+-- the leading zeros of a number to 256 are at most 64 and at least 54, so that a number from 64 to 117 less them is a length to shift by
+at-most : {s : ℕ} (n : ℕ) → 64 ≤ s → leadingZeros 64 n ≤ s
+at-most n h = omega (arith, leading-le 64 n)
+
+at-least : {s : ℕ} (n : ℕ) → s < 118 → n ≤ 256 → s - leadingZeros 64 n < 64
+at-least n h f =
+    let len = leading-length 64 n (omega arith) in
+    omega (arith, len .1, exponents (len .0) 10 (omega (arith, len .3)))
+
 returns : tie.Need-returns
 returns c = refused _ (c .before .before .before .check-capacity .ensures) (c .before .checked .given .1)
 
-sub-at : tie.Need-sub-at
-sub-at c = let f = fits (c .before .before .check-capacity .ensures) (c .enum-told .given .1) in omega arith
+sub-predecessor : tie.Need-sub-predecessor
+sub-predecessor c = let f = fits (c .before .before .check-capacity .ensures) (c .enum-told .given .1) in omega arith
 
-mul-t6 : tie.Need-mul-t6
-mul-t6 c = let f = fits (c .before .before .check-capacity .ensures) (c .enum-told .given .1) in omega arith
+sub-t6 : tie.Need-sub-t6
+sub-t6 c = at-most _ (omega arith)
 
-array-read-t9 : tie.Need-array-read-t9
-array-read-t9 c = let f = fits (c .before .before .check-capacity .ensures) (c .enum-told .given .1) in omega arith
+shl-t8 : tie.Need-shl-t8
+shl-t8 c = let f = fits (c .before .before .check-capacity .ensures) (c .enum-told .given .1) in at-least _ (omega arith) (omega arith)
 
 returns-2 : tie.Need-returns-2
-unfolding counts right isLeastPower down some?
 returns-2 c =
-    counted _ (c .before .before .check-capacity .ensures) (c .enum-told .given .1) (entry counts tt refl (fits (c .before .before .check-capacity .ensures) (c .enum-told .given .1)))
+    counted _ (c .before .before .check-capacity .ensures) (c .enum-told .given .1) (shifted (fits (c .before .before .check-capacity .ensures) (c .enum-told .given .1)))
 
 pub bucket-count-spec : {M : Type 1} → statement M
 bucket-count-spec =
@@ -78,7 +64,8 @@ bucket-count-spec =
     (λ c. search needs)
     returns
     (λ c. search needs)
-    sub-at
-    mul-t6
-    array-read-t9
+    sub-predecessor
+    sub-t6
+    (λ c. search needs)
+    shl-t8
     returns-2)
