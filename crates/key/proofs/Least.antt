@@ -1,5 +1,6 @@
 -- SPDX-License-Identifier: Apache-2.0
--- The rule's powers are least powers of two, half of a bucket count is one, and bucket counts divide each other. Assumes nothing.
+-- The rule's powers are least powers of two, half of a bucket count is one, a bucket count comes from leading zeros, and bucket counts divide each other.
+-- Assumes nothing.
 use Prim.Native.Nat.{ℕ, zero, suc, _+_, _-_, _*_, _^_, _<_, _≤_}
 use native.Mathlib.Omega.{arith}
 use native.Mathlib.Nat.{zero-add, pow-suc}
@@ -75,15 +76,16 @@ count-least c h = power-least (2 * c) (omega arith)
 pub count-half : (c : ℕ) → 0 < c → c ≤ 2 ^ 62 → bucketCount c ≡ 2 * powerOver c
 count-half c pos h = least-one (count-least c h) (twice pos (power-least c (omega arith)))
 
+-- the least power of two not below twice a number whose predecessor has m binary digits
+digits-least : (c m : ℕ) → 0 < c → c - 1 < 2 ^ m → 2 ^ m ≤ 2 * (c - 1) + 1 → LeastPower (2 * c) (2 ^ suc m)
+digits-least c m pos lo hi = record { power = (suc m, refl); over = omega (arith, pow-suc 2 m); least = λ k h. strict m k (omega arith) }
+
 -- Document 02, request 2: "The bucket count shall come from the number of leading zeros of the capacity's predecessor"
 pub count-zeros : (c : ℕ) → 0 < c → c ≤ 2 ^ 62 → bucketCount c ≡ 2 ^ (65 - leadingZeros 64 (c - 1))
 count-zeros c pos h =
     let len = leading-length 64 (c - 1) (omega arith) in
-    let m : ℕ = len .0 in
-    let one-more : 65 - leadingZeros 64 (c - 1) ≡ suc m = omega (arith, len .1) in
-    let least : LeastPower (2 * c) (2 ^ suc m) =
-    record { power = (suc m, refl); over = omega (arith, len .2, pow-suc 2 m); least = λ k g. strict m k (omega (arith, len .3)) } in
-    rw one-more (least-one (count-least c h) least)
+    let one-more : 65 - leadingZeros 64 (c - 1) ≡ suc (len .0) = omega (arith, len .1) in
+    rw one-more (least-one (count-least c h) (digits-least c (len .0) pos (len .2) (len .3)))
 
 -- a table has some buckets, and no more than its array holds
 pub some-bucket : (c : ℕ) → c ≤ 2 ^ 62 → 0 < bucketCount c

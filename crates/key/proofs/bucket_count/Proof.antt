@@ -28,6 +28,7 @@ counted : (c : ℕ) {d : Done} {n : ℕ} → doneAnswer d ≡ needCapacity c →
 unfolding countFor
 counted c e q w = rw (← e, q, w)
 
+-- what the shift gives is the bucket count
 shifted : {c : ℕ} → (0 < c) × (c ≤ 256) → (1 * 2 ^ (65 - leadingZeros 64 (c - 1))) % 2 ^ 64 ≡ bucketCount c
 shifted {c} f = omega (arith, count-zeros c (f .0) (omega arith), few-buckets c (f .1))
 
