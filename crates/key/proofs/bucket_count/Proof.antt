@@ -55,7 +55,9 @@ shl-t8 c = let f = fits (c .before .before .check-capacity .ensures) (c .enum-to
 
 returns-2 : tie.Need-returns-2
 returns-2 c =
-    counted _ (c .before .before .check-capacity .ensures) (c .enum-told .given .1) (shifted (fits (c .before .before .check-capacity .ensures) (c .enum-told .given .1)))
+    let checked = c .before .before .check-capacity .ensures in
+    let done = c .enum-told .given .1 in
+    counted _ checked done (shifted (fits checked done))
 
 pub bucket-count-spec : {M : Type 1} → statement M
 bucket-count-spec =
