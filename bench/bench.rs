@@ -27,37 +27,37 @@ struct Sheet {
     counted: usize,
 }
 
-/// What makes the record of a call from the file of its key.
+/// What makes the record of a call from the page of its key.
 type Call = fn(u64) -> [u64; 3];
 
-/// A record of document 01 as three numbers of 8 bytes, low byte first. The key is (file, 0, 0).
-fn record(code: u8, place: usize, number: usize, file: u64) -> [u64; 3] {
-    [u64::from(code) | 1 << 8 | (place as u64 % 16) << 24 | (number as u64) << 32, file, 0]
+/// A record of document 01 as three numbers of 8 bytes, low byte first. The key is (0, 0, page): neighbouring pages are of neighbouring buckets.
+fn record(code: u8, place: usize, number: usize, page: u64) -> [u64; 3] {
+    [u64::from(code) | 1 << 8 | (place as u64 % 16) << 24 | (number as u64) << 32, 0, page]
 }
 
 fn new(capacity: usize) -> [u64; 3] {
     record(1, 0, capacity, 0)
 }
 
-fn access(file: u64) -> [u64; 3] {
-    record(2, file as usize, 0, file)
+fn access(page: u64) -> [u64; 3] {
+    record(2, page as usize, 0, page)
 }
 
 /// Access through the gate, a code that crates/bench has beside document 01's.
-fn through(file: u64) -> [u64; 3] {
-    record(10, file as usize, 0, file)
+fn through(page: u64) -> [u64; 3] {
+    record(10, page as usize, 0, page)
 }
 
-fn publish(file: u64) -> [u64; 3] {
-    record(3, file as usize, 0, 0)
+fn publish(page: u64) -> [u64; 3] {
+    record(3, page as usize, 0, 0)
 }
 
-fn abort(file: u64) -> [u64; 3] {
-    record(4, file as usize, 0, 0)
+fn abort(page: u64) -> [u64; 3] {
+    record(4, page as usize, 0, 0)
 }
 
-fn lookup(file: u64) -> [u64; 3] {
-    record(5, 0, 0, file)
+fn lookup(page: u64) -> [u64; 3] {
+    record(5, 0, 0, page)
 }
 
 fn resize(capacity: usize) -> [u64; 3] {
@@ -83,16 +83,16 @@ impl Sheet {
         self.counted += 1;
     }
 
-    /// A new table with every slot clean: the files from 1 to the capacity.
+    /// A new table with every slot clean: the pages from 1 to the capacity.
     fn full(&mut self) {
         self.take(new(self.capacity));
-        for file in self.files() {
-            self.take(access(file));
-            self.take(publish(file));
+        for page in self.pages() {
+            self.take(access(page));
+            self.take(publish(page));
         }
     }
 
-    fn files(&self) -> std::ops::RangeInclusive<u64> {
+    fn pages(&self) -> std::ops::RangeInclusive<u64> {
         1..=self.capacity as u64
     }
 }
@@ -116,7 +116,7 @@ fn sheets(capacity: usize, calls: usize) -> Vec<Sheet> {
         let mut sheet = Sheet::new(name, capacity);
         for _ in 0..tables {
             sheet.take(new(capacity));
-            sheet.files().for_each(|file| sheet.count(call(file)));
+            sheet.pages().for_each(|page| sheet.count(call(page)));
         }
         all.push(sheet);
     }
@@ -124,24 +124,24 @@ fn sheets(capacity: usize, calls: usize) -> Vec<Sheet> {
         let mut sheet = Sheet::new(name, capacity);
         for _ in 0..tables {
             sheet.full();
-            sheet.files().for_each(|file| sheet.count(call(size + file)));
+            sheet.pages().for_each(|page| sheet.count(call(size + page)));
         }
         all.push(sheet);
     }
     let mut sheet = Sheet::new("access that evicts, and publish (each a call)", capacity);
     sheet.full();
-    for file in 1..=calls as u64 / 2 {
-        sheet.count(access(size + file));
-        sheet.count(publish(size + file));
+    for page in 1..=calls as u64 / 2 {
+        sheet.count(access(size + page));
+        sheet.count(publish(size + page));
     }
     all.push(sheet);
     for (name, call) in [("publish", publish as Call), ("abort", abort)] {
         let mut sheet = Sheet::new(name, capacity);
         for _ in 0..tables {
             sheet.take(new(capacity));
-            for first in sheet.files().step_by(16) {
-                (first..first + 16).for_each(|file| sheet.take(access(file)));
-                (first..first + 16).for_each(|file| sheet.count(call(file)));
+            for first in sheet.pages().step_by(16) {
+                (first..first + 16).for_each(|page| sheet.take(access(page)));
+                (first..first + 16).for_each(|page| sheet.count(call(page)));
             }
         }
         all.push(sheet);

@@ -3,51 +3,78 @@
 //! what document 01 says of it: the word and its number.
 
 use crate::case::{CALLS, CLEAN_ENTRY, COLD_CANDIDATE, Case, DETACH, OLDEST_CLEAN, PEEK_CLEAN, VALIDATE};
+use crate::make_sheets::with_sum;
 use crate::picture::{NONE, Picture};
 use crate::sheet::{ABORT, ACCESS, LOOKUP, PUBLISH, RECLAIM, REMOVE, RESIZE};
 use crate::{Access, CacheKey, Table, Token};
 
 const MAX: u64 = u64::MAX;
-/// A table of 66 slots has this many buckets, so files that are multiples of it share one.
-pub const APART: u64 = 256;
 
 type Aimed = Vec<(&'static str, Case)>;
 
-pub fn key(file: u64) -> CacheKey {
-    CacheKey { file, kind: 0, index: 0 }
+/// Pages in a row: key 1 is of bucket 1, key 2 of bucket 2 and so on.
+pub fn key(page: u64) -> CacheKey {
+    CacheKey { file: 0, kind: 0, index: page }
 }
 
-/// Each file is loaded in its turn: slots 0, 1 and so on, uses 1, 2 and so on.
-pub fn loaded(capacity: usize, files: impl IntoIterator<Item = u64>) -> Table {
+/// A key of each file, all of bucket 0 at every bucket count. Without the turn of file they would be spread.
+pub fn mate(file: u64) -> CacheKey {
+    with_sum(2048, file, 0)
+}
+
+/// A key of each file, of buckets 0 and 256 of 512 by turns, which are one of 256.
+pub fn half_mate(file: u64) -> CacheKey {
+    with_sum(256 * file, file, 0)
+}
+
+/// Each key is loaded in its turn: slots 0, 1 and so on, uses 1, 2 and so on.
+fn loaded_keys(capacity: usize, keys: impl IntoIterator<Item = CacheKey>) -> Table {
     let mut table = Table::try_new(capacity).expect("a capacity");
-    for file in files {
-        let token = reserve(&mut table, file);
+    for key in keys {
+        let token = reserve_key(&mut table, key);
         table.publish(token).expect("its token");
     }
     table
 }
 
-pub fn reserve(table: &mut Table, file: u64) -> Token {
+fn reserve_key(table: &mut Table, key: CacheKey) -> Token {
     let pins = vec![0; table.capacity()];
-    let Ok(Access::Reserved { token, .. }) = table.access(key(file), true, &pins) else { panic!("a vacant slot") };
+    let Ok(Access::Reserved { token, .. }) = table.access(key, true, &pins) else { panic!("a vacant slot") };
     token
 }
 
-pub fn clean(capacity: usize, files: impl IntoIterator<Item = u64>) -> Picture {
-    loaded(capacity, files).picture()
+pub fn clean_keys(capacity: usize, keys: impl IntoIterator<Item = CacheKey>) -> Picture {
+    loaded_keys(capacity, keys).picture()
 }
 
-/// The call on the table; its number is 0, its key that of file 1, no slot is pinned.
+/// The same for the keys of pages.
+pub fn loaded(capacity: usize, pages: impl IntoIterator<Item = u64>) -> Table {
+    loaded_keys(capacity, pages.into_iter().map(key))
+}
+
+pub fn reserve(table: &mut Table, page: u64) -> Token {
+    reserve_key(table, key(page))
+}
+
+pub fn clean(capacity: usize, pages: impl IntoIterator<Item = u64>) -> Picture {
+    loaded(capacity, pages).picture()
+}
+
+/// The call on the table; its number is 0, its key that of page 1, no slot is pinned.
 pub fn call(code: u8, table: &Picture) -> Case {
     let slots = table.capacity as usize;
     let token = Token { slot: 0, generation: 0, key: key(1), access_sequence: 0 };
     Case { code, allow: 1, token, list_len: slots as u16, pins: vec![0; slots], table: table.clone() }
 }
 
-pub fn of_file(code: u8, table: &Picture, file: u64) -> Case {
+pub fn of_key(code: u8, table: &Picture, key: CacheKey) -> Case {
     let mut case = call(code, table);
-    case.token.key = key(file);
+    case.token.key = key;
     case
+}
+
+pub fn of_page(code: u8, table: &Picture, page: u64) -> Case {
+    of_key(code, table, key(page))
 }
 
 pub fn of_number(code: u8, table: &Picture, number: u64) -> Case {
@@ -78,11 +105,11 @@ fn counters(all: &mut Aimed) {
     all.push(("hit 0", call(ACCESS, &full)));
     all.push(("hit 0", call(LOOKUP, &full)));
     all.push(("reserved 0", call(ACCESS, &vacant)));
-    all.push(("evicted 0", of_file(ACCESS, &full, 2)));
+    all.push(("evicted 0", of_page(ACCESS, &full, 2)));
     all.push(("loading -", call(ACCESS, &loading)));
     all.push(("none -", call(LOOKUP, &loading)));
     all.push(("busy -", Case { allow: 0, ..call(ACCESS, &vacant) }));
-    all.push(("busy -", pinned(of_file(ACCESS, &full, 2), 1)));
+    all.push(("busy -", pinned(of_page(ACCESS, &full, 2), 1)));
     all.push(("done -", call(REMOVE, &full)));
     all.push(("done -", call(DETACH, &full)));
     all.push(("reclaimed 1", of_number(RECLAIM, &full, 1)));
@@ -91,8 +118,8 @@ fn counters(all: &mut Aimed) {
 
 /// 7: the use number spent, or the generation; and one before the end, where both are still given.
 fn numbers(all: &mut Aimed) {
-    let at = |uses: u64, generations: u64, files: &[u64]| {
-        let mut table = clean(1, files.iter().copied());
+    let at = |uses: u64, generations: u64, pages: &[u64]| {
+        let mut table = clean(1, pages.iter().copied());
         table.next_access_sequence = uses;
         table.next_load_generation = generations;
         table
@@ -105,7 +132,7 @@ fn numbers(all: &mut Aimed) {
     all.push(("refused 7", call(ACCESS, &at(5, MAX, &[]))));
     all.push(("refused 7", call(ACCESS, &at(MAX, MAX, &[]))));
     all.push(("reserved 0", call(ACCESS, &at(MAX - 1, MAX - 1, &[]))));
-    all.push(("refused 7", of_file(ACCESS, &at(MAX, 5, &[1]), 2)));
+    all.push(("refused 7", of_page(ACCESS, &at(MAX, 5, &[1]), 2)));
 }
 
 /// A token is taken only with its slot, its key and its generation (6), and published only with a use number that was given (9).
@@ -119,7 +146,7 @@ fn tokens(all: &mut Aimed) {
         all.push(("done -", with(code, token)));
         all.push(("refused 6", with(code, Token { key: other.key, ..token })));
         all.push(("refused 6", with(code, Token { key: CacheKey { kind: 1, ..token.key }, ..token })));
-        all.push(("refused 6", with(code, Token { key: CacheKey { index: 1, ..token.key }, ..token })));
+        all.push(("refused 6", with(code, Token { key: CacheKey { file: 1, ..token.key }, ..token })));
         all.push(("refused 6", with(code, Token { generation: other.generation, ..token })));
         all.push(("refused 6", with(code, Token { slot: other.slot, ..token })));
         all.push(("refused 6", with(code, Token { slot: 0, ..token })));
@@ -203,19 +230,19 @@ fn heaps(all: &mut Aimed) {
     all.push(("hit 0", call(ACCESS, &table)));
     let mut table = with([(2, 1), (1, 2), (0, 2)]);
     table.next_access_sequence = 1;
-    all.push(("hit 2", of_file(ACCESS, &table, 3)));
+    all.push(("hit 2", of_page(ACCESS, &table, 3)));
     // A key published with the use of the root, in a smaller slot and in a greater one.
-    for (slot, file) in [(0, 1), (1, 2)] {
+    for (slot, page) in [(0, 1), (1, 2)] {
         let mut table = loaded(2, []);
         let tokens = [reserve(&mut table, 1), reserve(&mut table, 2)];
         table.publish(tokens[1 - slot]).expect("its token");
         let token = Token { access_sequence: tokens[1 - slot].access_sequence, ..tokens[slot] };
-        all.push(("done -", Case { token, ..of_file(PUBLISH, &table.picture(), file) }));
+        all.push(("done -", Case { token, ..of_page(PUBLISH, &table.picture(), page) }));
     }
     // Places by use: 1, 8 3, 10 9 6 7. Where the 10 leaves, the 7 goes above the 8; where the 8 leaves, the 7 stays; where the 1 leaves, it goes down.
     let mut table = loaded(7, 1..=7);
-    for file in [2, 4, 5] {
-        table.lookup(key(file)).expect("a hit");
+    for page in [2, 4, 5] {
+        table.lookup(key(page)).expect("a hit");
     }
     let table = table.picture();
     for slot in [4, 1, 0, 6] {
@@ -233,40 +260,40 @@ fn heaps(all: &mut Aimed) {
     // No more places are looked at than the clean count says.
     let mut few = clean(2, [1, 2]);
     few.clean = 1;
-    all.push(("busy -", pinned(of_file(ACCESS, &few, 3), 1)));
+    all.push(("busy -", pinned(of_page(ACCESS, &few, 3), 1)));
     all.push(("reclaimed 0", pinned(of_number(RECLAIM, &few, 2), 1)));
 }
 
 /// A chain of 63 takes a key, one of 64 does not, and a 65th slot of a chain is a stop.
 fn chains(all: &mut Aimed) {
-    let chain = |slots: u64| clean(66, (0..slots).map(|file| file * APART).chain([1]));
-    all.push(("reserved 64", of_file(ACCESS, &chain(63), 63 * APART)));
+    let chain = |slots: u64| clean_keys(66, (0..slots).map(mate).chain([key(1)]));
+    all.push(("reserved 64", of_key(ACCESS, &chain(63), mate(63))));
     let full = chain(64);
-    all.push(("busy -", of_file(ACCESS, &full, 64 * APART)));
-    all.push(("reserved 65", of_file(ACCESS, &full, 2)));
-    all.push(("hit 0", of_file(ACCESS, &full, 0)));
-    all.push(("hit 0", of_file(LOOKUP, &full, 0)));
-    all.push(("none -", of_file(LOOKUP, &full, 64 * APART)));
-    all.push(("found 0", of_file(PEEK_CLEAN, &full, 0)));
+    all.push(("busy -", of_key(ACCESS, &full, mate(64))));
+    all.push(("reserved 65", of_page(ACCESS, &full, 2)));
+    all.push(("hit 0", of_key(ACCESS, &full, mate(0))));
+    all.push(("hit 0", of_key(LOOKUP, &full, mate(0))));
+    all.push(("none -", of_key(LOOKUP, &full, mate(64))));
+    all.push(("found 0", of_key(PEEK_CLEAN, &full, mate(0))));
     all.push(("done -", of_number(REMOVE, &full, 0)));
     // Slot 64 in front of that chain, so that slot 0 is the 65th.
     let mut long = full;
     long.heads[1] = NONE;
-    long.slots[64].key = key(64 * APART);
+    long.slots[64].key = mate(64);
     long.next[64] = long.heads[0];
     long.heads[0] = 64;
-    all.push(("refused 10", of_file(ACCESS, &long, 65 * APART)));
-    all.push(("refused 10", of_file(ACCESS, &long, 0)));
-    all.push(("refused 10", of_file(LOOKUP, &long, 0)));
-    all.push(("hit 1", of_file(LOOKUP, &long, APART)));
-    all.push(("refused 10", of_file(PEEK_CLEAN, &long, 0)));
-    all.push(("found 1", of_file(PEEK_CLEAN, &long, APART)));
+    all.push(("refused 10", of_key(ACCESS, &long, mate(65))));
+    all.push(("refused 10", of_key(ACCESS, &long, mate(0))));
+    all.push(("refused 10", of_key(LOOKUP, &long, mate(0))));
+    all.push(("hit 1", of_key(LOOKUP, &long, mate(1))));
+    all.push(("refused 10", of_key(PEEK_CLEAN, &long, mate(0))));
+    all.push(("found 1", of_key(PEEK_CLEAN, &long, mate(1))));
     all.push(("refused 10", of_number(REMOVE, &long, 0)));
     all.push(("done -", of_number(DETACH, &long, 1)));
     // The only victim is in the full chain that refuses the key.
-    all.push(("busy -", of_file(ACCESS, &clean(64, (0..64).map(|file| file * 128)), 64 * 128)));
+    all.push(("busy -", of_key(ACCESS, &clean_keys(64, (0..64).map(mate)), mate(64))));
     // 65 keys in two chains of 129 slots, which 128 slots have as one: a key is removed, and Busy where all are pinned.
-    let two = clean(129, (0..65).map(|file| file * APART));
+    let two = clean_keys(129, (0..65).map(half_mate));
     all.push(("resized 128", of_number(RESIZE, &two, 128)));
     all.push(("busy -", pinned(of_number(RESIZE, &two, 1), 65)));
 }
@@ -274,9 +301,9 @@ fn chains(all: &mut Aimed) {
 /// 64 heap places are looked at; a reclaim removes at most 64 slots; many clean slots move.
 fn many(all: &mut Aimed) {
     let full = clean(66, 1..=66);
-    all.push(("evicted 0", of_file(ACCESS, &full, 67)));
-    all.push(("evicted 63", pinned(of_file(ACCESS, &full, 67), 63)));
-    all.push(("busy -", pinned(of_file(ACCESS, &full, 67), 64)));
+    all.push(("evicted 0", of_page(ACCESS, &full, 67)));
+    all.push(("evicted 63", pinned(of_page(ACCESS, &full, 67), 63)));
+    all.push(("busy -", pinned(of_page(ACCESS, &full, 67), 64)));
     all.push(("reclaimed 3", pinned(of_number(RECLAIM, &full, 70), 63)));
     all.push(("reclaimed 0", pinned(of_number(RECLAIM, &full, 70), 64)));
     for (limit, word) in [(32, "reclaimed 32"), (63, "reclaimed 63"), (64, "reclaimed 64"), (65, "reclaimed 64"), (MAX, "reclaimed 64")] {
@@ -315,7 +342,7 @@ fn stops(all: &mut Aimed) {
     let mut most = Case { token, ..call(PUBLISH, &table) };
     most.table.clean = MAX;
     all.push(("refused 10", most));
-    let mut most = of_file(ACCESS, &sound, 2);
+    let mut most = of_page(ACCESS, &sound, 2);
     most.table.loading = MAX;
     all.push(("refused 10", most));
     damaged(all);
@@ -346,13 +373,13 @@ fn damaged(all: &mut Aimed) {
             all.push(("refused 10", call(code, &table)));
         }
         all.push(("found 0", call(PEEK_CLEAN, &table)));
-        all.push(("refused 10", of_file(ACCESS, &table, 3)));
+        all.push(("refused 10", of_page(ACCESS, &table, 3)));
         all.push(("refused 10", of_number(RECLAIM, &table, 1)));
         all.push(("refused 10", of_number(RESIZE, &table, 1)));
     }
     // A heap entry of a slot past the capacity: as the root, and behind it.
     let root = on(&two, &|table| table.entries[0].0 = 700);
-    all.push(("refused 10", of_file(ACCESS, &root, 3)));
+    all.push(("refused 10", of_page(ACCESS, &root, 3)));
     all.push(("refused 10", of_number(RECLAIM, &root, 1)));
     all.push(("refused 10", of_number(RESIZE, &root, 1)));
     all.push(("found 700", call(OLDEST_CLEAN, &root)));
@@ -361,7 +388,7 @@ fn damaged(all: &mut Aimed) {
     all.push(("refused 10", call(REMOVE, &last)));
     all.push(("found 700", of_number(COLD_CANDIDATE, &last, 1)));
     // A vacant slot that links on, a head past the capacity, and a key that is in no chain.
-    all.push(("refused 10", of_file(ACCESS, &on(&one, &|table| table.next[1] = 1), 2)));
+    all.push(("refused 10", of_page(ACCESS, &on(&one, &|table| table.next[1] = 1), 2)));
     for (head, found) in [(700, "refused 10"), (NONE, "none -")] {
         let table = on(&two, &|table| table.heads[1] = head);
         all.push((found, call(LOOKUP, &table)));

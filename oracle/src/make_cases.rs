@@ -179,7 +179,7 @@ fn record(kind: u8, key: CacheKey, number: u64) -> Record {
 
 /// The key of a slot a second time in another occupied slot of the same bucket, so that only the doubling is wrong.
 fn double(table: &mut Picture, at: usize, random: &mut Random) {
-    let bucket = |record: &Record| record.key.file.wrapping_add(record.key.kind.into()).wrapping_add(record.key.index) % table.buckets;
+    let bucket = |record: &Record| record.key.bucket_of(table.buckets);
     let of = bucket(&table.slots[at]);
     let same: Vec<usize> =
         (0..table.slots.len()).filter(|slot| table.slots[*slot].kind != VACANT && bucket(&table.slots[*slot]) == of).collect();

@@ -150,7 +150,7 @@ impl<Emit: FnMut(&GateCase)> Lists<'_, Emit> {
     /// Few slots, few keys, every call; sometimes a new table in between, made or refused.
     fn small(&mut self) {
         let capacity = self.random.between(1, 6);
-        let keys = self.random.pick(&[Keys::Row, Keys::Pages, Keys::Bucket(0), Keys::Bucket(MAX), Keys::Ends]);
+        let keys = self.random.pick(&[Keys::Row, Keys::Files, Keys::Pages, Keys::Bucket(0), Keys::Bucket(MAX), Keys::Ends]);
         self.few = Few { keys, count: capacity + self.random.between(1, 3) };
         self.most = 8;
         self.new_table(capacity);
@@ -165,7 +165,7 @@ impl<Emit: FnMut(&GateCase)> Lists<'_, Emit> {
 
     fn any_size(&mut self) {
         let capacity = self.random.between(1, MOST_SLOTS);
-        let keys = self.random.pick(&[Keys::Row, Keys::Pages, Keys::Bucket(7), Keys::Ends]);
+        let keys = self.random.pick(&[Keys::Row, Keys::Files, Keys::Pages, Keys::Bucket(7), Keys::Ends]);
         self.few = Few { keys, count: capacity + self.random.below(capacity + 2) };
         self.most = MOST_SLOTS;
         self.new_table(capacity);
@@ -254,7 +254,7 @@ fn plain(code: u8, number: u64, table: &Picture) -> Case {
     Case { code, allow: 1, token, list_len: slots as u16, pins: vec![0; slots], table: Picture::default() }
 }
 
-/// A call of the short lists: its code, whether loading is allowed, its number, its file. A publish or abort shows the newest token.
+/// A call of the short lists: its code, whether loading is allowed, its number, its page. A publish or abort shows the newest token.
 type Short = (u8, u8, u64, u64);
 
 /// Every list of so many calls after a new table.
@@ -280,9 +280,9 @@ fn longer(calls: &[Short], length: u64, held: &Held, newest: Token, bytes: &mut 
         return;
     }
     let begun = bytes.len();
-    for (code, allow, number, file) in calls {
+    for (code, allow, number, page) in calls {
         let mut case = Case { allow: *allow, ..plain(*code, *number, &held.table) };
-        case.token.key.file = *file;
+        case.token.key.index = *page;
         if [PUBLISH, ABORT].contains(code) {
             case.token = newest;
         }

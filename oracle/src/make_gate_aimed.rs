@@ -4,7 +4,7 @@
 
 use crate::case::{CALLS, CLEAN_ENTRY, COLD_CANDIDATE, Case, DETACH, OLDEST_CLEAN, PEEK_CLEAN, VALIDATE};
 use crate::gate_case::{BEGIN_DIRTY, BEGIN_PAUSE, END_DIRTY, END_PAUSE, GateCase};
-use crate::make_aimed::{APART, call, clean, key, loaded, of_file, of_number, pinned, reserve};
+use crate::make_aimed::{call, clean, clean_keys, half_mate, key, loaded, mate, of_key, of_number, of_page, pinned, reserve};
 use crate::picture::Picture;
 use crate::sheet::{ABORT, ACCESS, LOOKUP, NEW, PUBLISH, RECLAIM, REMOVE, RESIZE};
 use crate::{Gate, Token};
@@ -100,7 +100,7 @@ fn lengths(all: &mut Aimed) {
     let gate = [1, 1, 1, MAX];
     all.keeps(gate, Case { list_len: u16::MAX, ..of_number(RESIZE, &table, 2) }, "refused 4");
     all.keeps(gate, Case { pins: pins.clone(), ..of_number(RESIZE, &table, 2) }, "refused 3");
-    all.keeps(gate, Case { pins: pins.clone(), ..of_file(ACCESS, &table, 1) }, "refused 3");
+    all.keeps(gate, Case { pins: pins.clone(), ..of_page(ACCESS, &table, 1) }, "refused 3");
     all.on(gate, Case { pins, list_len: u16::MAX, ..call(BEGIN_PAUSE, &table) }, "done -", [2, 1, 1, MAX]);
 }
 
@@ -155,13 +155,13 @@ fn loads(all: &mut Aimed) {
     all.keeps([0, 0, 1, 5], pin(of_number(RESIZE, &uncounted, 4), 1), "refused 8");
     // The mark shuts the gate until the load has ended and the resize is asked for again.
     all.on(OPEN, of_number(RESIZE, &table, 4), "busy -", [0, 0, 1, 0]);
-    all.then(of_file(ACCESS, &table, 3), "busy -", [0, 0, 1, 0]);
-    all.then(of_file(ACCESS, &table, 1), "hit 0", [0, 0, 1, 0]);
-    all.then(of_file(ACCESS, &table, 2), "loading -", [0, 0, 1, 0]);
+    all.then(of_page(ACCESS, &table, 3), "busy -", [0, 0, 1, 0]);
+    all.then(of_page(ACCESS, &table, 1), "hit 0", [0, 0, 1, 0]);
+    all.then(of_page(ACCESS, &table, 2), "loading -", [0, 0, 1, 0]);
     all.then(Case { token, ..call(PUBLISH, &table) }, "done -", [0, 0, 1, 0]);
-    all.then(of_file(ACCESS, &table, 3), "busy -", [0, 0, 1, 0]);
+    all.then(of_page(ACCESS, &table, 3), "busy -", [0, 0, 1, 0]);
     all.then(of_number(RESIZE, &table, 4), "resized 4", [0, 0, 0, 1]);
-    all.then(of_file(ACCESS, &clean(4, []), 3), "reserved 2", [0, 0, 0, 1]);
+    all.then(of_page(ACCESS, &clean(4, []), 3), "reserved 2", [0, 0, 0, 1]);
 }
 
 /// 7: the mark cleared, the generation as it was; before 8 and 10, where nothing is remade too.
@@ -211,7 +211,7 @@ fn undone(all: &mut Aimed) {
 
 /// Attempts: a generation more. Resized, to a fresh table too, and the second Unchanged clear the mark; a later Busy leaves it.
 fn attempts(all: &mut Aimed) {
-    let two = clean(129, (0..65).map(|file| file * APART));
+    let two = clean_keys(129, (0..65).map(half_mate));
     for generation in [0, MAX - 1] {
         for mark in [0, 1] {
             let (before, cleared) = ([0, 0, mark, generation], [0, 0, 0, generation + 1]);
@@ -228,9 +228,9 @@ fn attempts(all: &mut Aimed) {
     }
     // The mark that is left shuts the gate still, and a resize to the equal capacity opens it.
     all.on([0, 0, 1, 0], pinned(of_number(RESIZE, &two, 1), 65), "busy -", [0, 0, 1, 1]);
-    all.then(of_file(ACCESS, &two, 1), "busy -", [0, 0, 1, 1]);
+    all.then(of_page(ACCESS, &two, 1), "busy -", [0, 0, 1, 1]);
     all.then(of_number(RESIZE, &two, 129), "unchanged -", [0, 0, 0, 1]);
-    all.then(of_file(ACCESS, &two, 1), "reserved 65", [0, 0, 0, 1]);
+    all.then(of_page(ACCESS, &two, 1), "reserved 65", [0, 0, 0, 1]);
 }
 
 /// The four turns at the ends of the counts. They look at nothing but their own count, and turn nothing else.
@@ -273,13 +273,13 @@ fn access(all: &mut Aimed) {
     let vacant = clean(2, [1]);
     let full = clean(2, [1, 2]);
     let (loads, _) = loading();
-    let spent = |files: &[u64], uses: u64, generations: u64| {
-        let mut table = clean(2, files.iter().copied());
+    let spent = |pages: &[u64], uses: u64, generations: u64| {
+        let mut table = clean(2, pages.iter().copied());
         table.next_access_sequence = uses;
         table.next_load_generation = generations;
         table
     };
-    let chain = clean(66, (0..64).map(|file| file * APART));
+    let chain = clean_keys(66, (0..64).map(mate));
     // A head and the top of the stack past the capacity.
     let mut head = full.clone();
     head.heads[3] = 700;
@@ -291,28 +291,28 @@ fn access(all: &mut Aimed) {
         [(&shut[..], "busy -", "busy -", "busy -", "busy -"), (&open[..], "reserved 1", "evicted 0", "refused 7", "refused 10")]
     {
         for gate in gates {
-            all.keeps(*gate, of_file(ACCESS, &vacant, 3), reserved);
-            all.keeps(*gate, of_file(ACCESS, &full, 3), evicted);
-            all.keeps(*gate, Case { allow: 0, ..of_file(ACCESS, &vacant, 3) }, "busy -");
-            all.keeps(*gate, pinned(of_file(ACCESS, &full, 3), 2), "busy -");
+            all.keeps(*gate, of_page(ACCESS, &vacant, 3), reserved);
+            all.keeps(*gate, of_page(ACCESS, &full, 3), evicted);
+            all.keeps(*gate, Case { allow: 0, ..of_page(ACCESS, &vacant, 3) }, "busy -");
+            all.keeps(*gate, pinned(of_page(ACCESS, &full, 3), 2), "busy -");
             // A key that is present, whether loading is allowed or not.
             for allow in [0, 1] {
-                all.keeps(*gate, Case { allow, ..of_file(ACCESS, &full, 2) }, "hit 1");
-                all.keeps(*gate, Case { allow, ..of_file(ACCESS, &loads, 2) }, "loading -");
+                all.keeps(*gate, Case { allow, ..of_page(ACCESS, &full, 2) }, "hit 1");
+                all.keeps(*gate, Case { allow, ..of_page(ACCESS, &loads, 2) }, "loading -");
             }
             // 7 of a hit, and of a load, which only an open gate lets come so far.
-            all.keeps(*gate, of_file(ACCESS, &spent(&[1], MAX, 5), 1), "refused 7");
-            all.keeps(*gate, of_file(ACCESS, &spent(&[1], 5, MAX), 3), refused7);
-            all.keeps(*gate, of_file(ACCESS, &spent(&[1], MAX, 5), 3), refused7);
+            all.keeps(*gate, of_page(ACCESS, &spent(&[1], MAX, 5), 1), "refused 7");
+            all.keeps(*gate, of_page(ACCESS, &spent(&[1], 5, MAX), 3), refused7);
+            all.keeps(*gate, of_page(ACCESS, &spent(&[1], MAX, 5), 3), refused7);
             // 3 stands before the gate.
-            all.keeps(*gate, Case { pins: vec![0; 3], ..of_file(ACCESS, &vacant, 3) }, "refused 3");
-            all.keeps(*gate, Case { pins: Vec::new(), ..of_file(ACCESS, &vacant, 1) }, "refused 3");
+            all.keeps(*gate, Case { pins: vec![0; 3], ..of_page(ACCESS, &vacant, 3) }, "refused 3");
+            all.keeps(*gate, Case { pins: Vec::new(), ..of_page(ACCESS, &vacant, 1) }, "refused 3");
             // A full chain, and a key in it.
-            all.keeps(*gate, of_file(ACCESS, &chain, 64 * APART), "busy -");
-            all.keeps(*gate, of_file(ACCESS, &chain, 63 * APART), "hit 63");
+            all.keeps(*gate, of_key(ACCESS, &chain, mate(64)), "busy -");
+            all.keeps(*gate, of_key(ACCESS, &chain, mate(63)), "hit 63");
             // 10 of the search is met at any gate, and 10 of the stack where a slot is taken.
-            all.keeps(*gate, of_file(ACCESS, &head, 3), "refused 10");
-            all.keeps(*gate, of_file(ACCESS, &top, 3), refused10);
+            all.keeps(*gate, of_page(ACCESS, &head, 3), "refused 10");
+            all.keeps(*gate, of_page(ACCESS, &top, 3), refused10);
         }
     }
 }
@@ -326,12 +326,12 @@ fn others(all: &mut Aimed) {
         all.keeps(gate, Case { token: Token { generation: 9, ..token }, ..call(PUBLISH, &table) }, "refused 6");
         all.keeps(gate, Case { token: Token { access_sequence: 9, ..token }, ..call(PUBLISH, &table) }, "refused 9");
         all.keeps(gate, Case { token, ..call(VALIDATE, &table) }, "done -");
-        all.keeps(gate, of_file(LOOKUP, &table, 1), "hit 0");
-        all.keeps(gate, of_file(LOOKUP, &table, 2), "none -");
+        all.keeps(gate, of_page(LOOKUP, &table, 1), "hit 0");
+        all.keeps(gate, of_page(LOOKUP, &table, 2), "none -");
         let mut spent = table.clone();
         spent.next_access_sequence = MAX;
-        all.keeps(gate, of_file(LOOKUP, &spent, 1), "refused 7");
-        all.keeps(gate, of_file(PEEK_CLEAN, &table, 1), "found 0");
+        all.keeps(gate, of_page(LOOKUP, &spent, 1), "refused 7");
+        all.keeps(gate, of_page(PEEK_CLEAN, &table, 1), "found 0");
         all.keeps(gate, of_number(CLEAN_ENTRY, &table, 0), "found 0");
         all.keeps(gate, call(OLDEST_CLEAN, &table), "found 0");
         all.keeps(gate, of_number(COLD_CANDIDATE, &table, 0), "found 0");
@@ -354,7 +354,7 @@ fn places(all: &mut Aimed) {
     let table = clean(2, [1, 2]);
     all.keeps([0, 0, 1, 5], of_number(REMOVE, &table, 0), "done -");
     all.then(of_number(RESIZE, &table, 2), "unchanged -", [0, 0, 0, 5]);
-    all.then(of_file(ACCESS, &table, 3), "reserved 0", [0, 0, 0, 5]);
+    all.then(of_page(ACCESS, &table, 3), "reserved 0", [0, 0, 0, 5]);
     all.then(of_number(RESIZE, &table, 1), "busy -", [0, 0, 1, 5]);
     let token = Token { slot: 0, generation: 3, key: key(3), access_sequence: 3 };
     all.then(Case { token, ..call(ABORT, &table) }, "done -", [0, 0, 1, 5]);

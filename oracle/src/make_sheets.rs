@@ -5,14 +5,24 @@ use crate::CacheKey;
 use crate::random::Random;
 use crate::sheet::{ABORT, ACCESS, LOOKUP, Line, NEW, PIN, PUBLISH, RECLAIM, REMOVE, RESIZE, Record, Sheet};
 
+/// Each end of a part of a key; of files also those next to where bits come round when they are turned.
+const FILES: [u64; 6] = [0, u64::MAX, 1, 1 << 63, 1 << 59, (1 << 59) - 1];
+const KINDS: [u8; 4] = [0, 255, 1, 128];
+const INDICES: [u64; 5] = [0, u64::MAX, 1, 1 << 63, u64::MAX - 1];
+/// How many keys have an end in each part.
+const ENDS: u64 = (FILES.len() * KINDS.len() * INDICES.len()) as u64;
+
 /// A family of keys; a key is told by a number.
 #[derive(Clone, Copy)]
 pub enum Keys {
-    /// Files numbered in a row.
+    /// Pages numbered in a row: neighbouring buckets.
     Row,
+    /// Files numbered in a row: one bucket of up to 32, every 32nd of more.
+    Files,
     /// A few files with kinds and pages.
     Pages,
-    /// One bucket at every bucket count: sums that are equal modulo 512. The parts are far apart, so that sums wrap.
+    /// One bucket at every bucket count: sums that are equal modulo 512, of files in a row and files all over their range by turns. The parts are far
+    /// apart, so that sums wrap. Without the turn of file they would be spread.
     Bucket(u64),
     /// Two buckets of 512 by turns, which are one bucket of 256.
     Two(u64),
@@ -22,23 +32,28 @@ pub enum Keys {
 
 impl Keys {
     pub fn key(self, number: u64) -> CacheKey {
-        const ENDS: [u64; 5] = [0, u64::MAX, 1, 1 << 63, u64::MAX - 1];
         match self {
-            Keys::Row => CacheKey { file: number + 1, kind: 0, index: 0 },
+            Keys::Row => CacheKey { file: 0, kind: 0, index: number + 1 },
+            Keys::Files => CacheKey { file: number + 1, kind: 0, index: 0 },
             Keys::Pages => CacheKey { file: 1 + number % 3, kind: (number / 3 % 3) as u8, index: number / 9 },
             Keys::Bucket(bucket) => {
-                let index = number.wrapping_mul(0x9e37_79b9_7f4a_7c15);
-                let kind = (number * 37) as u8;
-                let sum = bucket.wrapping_add(512 * number);
-                CacheKey { file: sum.wrapping_sub(index).wrapping_sub(kind.into()), kind, index }
+                let file = if number % 2 == 0 { number } else { number.wrapping_mul(0x9e37_79b9_7f4a_7c15) };
+                with_sum(bucket.wrapping_add(512 * number), file, (number * 37) as u8)
             }
             Keys::Two(bucket) => Keys::Bucket(bucket + 256 * (number % 2)).key(number),
             Keys::Ends => {
-                let kind = [0, 255, 1, 128][(number / 5 % 4) as usize];
-                CacheKey { file: ENDS[(number % 5) as usize], kind, index: ENDS[(number / 20 % 5) as usize].wrapping_add(number / 100) }
+                let (file, kind, index) = (number % 6, number / 6 % 4, number / 24 % 5);
+                let index = INDICES[index as usize].wrapping_add(number / ENDS);
+                CacheKey { file: FILES[file as usize], kind: KINDS[kind as usize], index }
             }
         }
     }
+}
+
+/// The key of that file and kind whose sum is the one given.
+pub fn with_sum(sum: u64, file: u64, kind: u8) -> CacheKey {
+    let key = CacheKey { file, kind, index: 0 };
+    CacheKey { index: sum.wrapping_sub(key.sum()), ..key }
 }
 
 /// The first keys of a family.
@@ -245,7 +260,7 @@ impl Maker {
     /// Few slots, few keys, every call.
     fn small(&mut self) {
         let capacity = self.random.between(1, 6);
-        self.keys = self.random.pick(&[Keys::Row, Keys::Pages, Keys::Bucket(0), Keys::Bucket(u64::MAX), Keys::Ends]);
+        self.keys = self.random.pick(&[Keys::Row, Keys::Files, Keys::Pages, Keys::Bucket(0), Keys::Bucket(u64::MAX), Keys::Ends]);
         self.key_count = capacity + self.random.between(1, 4);
         self.most = 8;
         self.new_table(capacity);
@@ -255,7 +270,7 @@ impl Maker {
 
     fn any_size(&mut self) {
         let capacity = self.random.between(1, 256);
-        self.keys = self.random.pick(&[Keys::Row, Keys::Pages, Keys::Bucket(7), Keys::Ends]);
+        self.keys = self.random.pick(&[Keys::Row, Keys::Files, Keys::Pages, Keys::Bucket(7), Keys::Ends]);
         self.key_count = capacity + self.random.below(capacity + 2);
         self.most = 256;
         self.new_table(capacity);
@@ -428,7 +443,7 @@ impl Maker {
     /// Up and down with pins.
     fn resizes(&mut self) {
         let capacity = self.random.pick(&[1, 2, 3, 4, 5, 7, 8, 9, 16, 17, 24, 33]);
-        self.keys = self.random.pick(&[Keys::Row, Keys::Pages, Keys::Bucket(1), Keys::Ends]);
+        self.keys = self.random.pick(&[Keys::Row, Keys::Files, Keys::Pages, Keys::Bucket(1), Keys::Ends]);
         self.most = 2 * capacity + 2;
         self.new_table(capacity);
         for _ in 0..self.random.between(1, 5) {
@@ -485,18 +500,18 @@ impl Maker {
     }
 }
 
-/// The calls of the exhaustive sheets: capacity + 1 keys, of files 1, 9, 2, 10, so that the first two and the next two share a bucket (of 2 to 8
+/// The calls of the exhaustive sheets: capacity + 1 keys, of pages 1, 9, 2, 10, so that the first two and the next two share a bucket (of 2 to 8
 /// buckets); the token of each key in a place of its own.
 pub fn alphabet(capacity: u32) -> Vec<Record> {
-    let record = |code, allow, place, number, file| Record { code, allow, place, number, file, ..Record::default() };
+    let record = |code, allow, place, number, index| Record { code, allow, place, number, index, ..Record::default() };
     let mut calls = Vec::new();
     for key in 1..=capacity + 1 {
         let place = key as u8;
-        let file = [1, 9, 2, 10][(key - 1) as usize % 4];
-        calls.push(record(ACCESS, 1, place, 0, file));
+        let page = [1, 9, 2, 10][(key - 1) as usize % 4];
+        calls.push(record(ACCESS, 1, place, 0, page));
         calls.push(record(PUBLISH, 0, place, 0, 0));
         calls.push(record(ABORT, 0, place, 0, 0));
-        calls.push(record(LOOKUP, 0, 0, 0, file));
+        calls.push(record(LOOKUP, 0, 0, 0, page));
         calls.push(record(RESIZE, 0, 0, key, 0));
     }
     calls.push(record(ACCESS, 0, 0, 0, 1));
@@ -509,6 +524,25 @@ pub fn alphabet(capacity: u32) -> Vec<Record> {
         calls.push(record(RECLAIM, 0, 0, limit, 0));
     }
     calls
+}
+
+/// Every key that has an end in each part, loaded and looked up in a new table of that capacity, which is then made smaller and larger again.
+pub fn ends(capacity: u32) -> Vec<u8> {
+    let mut out = Vec::new();
+    let mut put = |code, number, key: CacheKey| {
+        Record { code, allow: 1, kind: key.kind, place: 0, number, file: key.file, index: key.index }.write(&mut out);
+    };
+    put(NEW, capacity, CacheKey::default());
+    for number in 0..ENDS {
+        put(ACCESS, 0, Keys::Ends.key(number));
+        put(PUBLISH, 0, CacheKey::default());
+    }
+    put(RESIZE, capacity.div_ceil(2), CacheKey::default());
+    put(RESIZE, capacity, CacheKey::default());
+    for number in 0..ENDS {
+        put(LOOKUP, 0, Keys::Ends.key(number));
+    }
+    out
 }
 
 /// Every sequence of that many calls on a new table, one after the other.

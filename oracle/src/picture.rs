@@ -148,8 +148,7 @@ impl Picture {
                 }
                 seen[at] = true;
                 let record = self.slots[at];
-                let sum = record.key.file.wrapping_add(record.key.kind.into()).wrapping_add(record.key.index);
-                if record.kind == VACANT || sum % self.buckets != bucket as u64 {
+                if record.kind == VACANT || record.key.bucket_of(self.buckets) != bucket as u64 {
                     return Some("a vacant slot in a chain, or a key in another bucket's chain");
                 }
                 if chain.iter().any(|other| self.slots[*other].key == record.key) {

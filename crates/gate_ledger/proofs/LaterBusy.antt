@@ -1,6 +1,7 @@
 -- SPDX-License-Identifier: Apache-2.0
--- A later Busy with the mark set, by the shortest list: in 129 slots 65 keys are reserved whose sums are multiples of 256, resize marks the gate over them,
--- they are published, and resize is asked again with the 65 pinned. In 128 slots they share a bucket, whose chain refuses the 65th. Assumes nothing.
+-- A later Busy with the mark set, by the shortest list: in 129 slots 65 keys are reserved, of files in a row, whose sums are multiples of 256; resize marks
+-- the gate over them, they are published, and resize is asked again with the 65 pinned. In 128 slots they share a bucket, whose chain refuses the 65th.
+-- Assumes nothing.
 use Prim.Native.Nat.{ℕ, zero, suc, _+_, _*_}
 use native.Mathlib.Omega.{arith}
 use mathlib.Core.Path.{_≡_, refl}
@@ -9,7 +10,7 @@ use mathlib.Core.List.{List, [], _∷_, _++_}
 use lib.ListN.{replicate}
 use Rattle.gate.specs.Gate as gates
 use Rattle.ledger.specs.Calls as Plain
-use Rattle.ledger.proofs.Samples.Words.{key, token}
+use Rattle.ledger.proofs.Samples.Words.{mate, tokenOf}
 use Rattle.gate_ledger.specs.Calls.{Call, call, rules, start, run, log}
 use Rattle.gate_ledger.specs.Ledger.{begin}
 use Rattle.gate_ledger.specs.Claim.{Kept, ledgerOf}
@@ -20,11 +21,11 @@ use Rattle.gate_ledger.proofs.Samples.{meetsAll, fair-all}
 -- a key for each of so many slots from `slot` on: reserved, and published
 unfoldable reserves : ℕ → ℕ → List Call
 reserves zero slot = []
-reserves (suc n) slot = call (Plain.access (key (256 * slot)) true (replicate 129 0)) ∷ reserves n (slot + 1)
+reserves (suc n) slot = call (Plain.access (mate (256 * slot) slot) true (replicate 129 0)) ∷ reserves n (slot + 1)
 
 unfoldable publishes : ℕ → ℕ → List Call
 publishes zero slot = []
-publishes (suc n) slot = call (Plain.publish (token slot (slot + 1) (256 * slot) (slot + 1))) ∷ publishes n (slot + 1)
+publishes (suc n) slot = call (Plain.publish (tokenOf slot (slot + 1) (mate (256 * slot) slot) (slot + 1))) ∷ publishes n (slot + 1)
 
 abbrev small : Call
 small = call (Plain.resize 1 (replicate 65 1 ++ replicate 64 0) (replicate 129 7))

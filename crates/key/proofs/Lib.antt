@@ -2,3 +2,4 @@
 pub mod Least
 pub mod Buckets
 pub mod Keys
+pub mod Samples

@@ -5,7 +5,7 @@
 // Document 01's key and its bucket, in place of the Rust's key.rs; and the bucket counts, which the Rust works out in index.rs.
 ghost use mathlib.Core.Path.{_≡_};
 ghost use Rattle.key.specs.Key.{sameKey};
-ghost use Rattle.key.specs.Bucket.{bucketOf, countFor};
+ghost use Rattle.key.specs.Bucket.{rotated, bucketOf, countFor};
 ghost use Rattle.key.specs.Answers.{countAnswer};
 use basics::Done;
 
@@ -34,18 +34,26 @@ impl CacheKey {
         self.index == other.index
     }
 
-    // The sum wraps at 2^64. With no buckets there is no remainder, and the sum itself is the answer.
+    // File is rotated before it joins the sum, which wraps at 2^64. With no buckets there is no remainder, and the sum itself is the answer.
     pub fn bucket(self, buckets: usize) -> usize
         ensures { λ r. ⌜ r ≡ bucketOf self buckets ⌝ }
     {
         let kind = self.kind as u64;
-        let part = std::num::wrapping_add_u64(self.file, kind);
+        let turned = rotate_left_5(self.file);
+        let part = std::num::wrapping_add_u64(turned, kind);
         let sum = std::num::wrapping_add_u64(part, self.index) as usize;
         if buckets == 0 {
             return sum;
         }
         sum % buckets
     }
+}
+
+// The Rust's `rotate_left(5)`.
+fn rotate_left_5(x: u64) -> u64
+    ensures { λ r. ⌜ r ≡ rotated x ⌝ }
+{
+    (x << 5) | (x >> 59)
 }
 
 // The bucket count of a capacity, or why there is none. A predecessor of n binary digits makes 2^(n + 1) buckets, and n is 64 less its leading zeros.

@@ -17,7 +17,7 @@ use Rattle.passage.specs.Resize.{needInputOf, attempted, attemptRule, passSteps
 
 -- ── what the cases are written with ──
 abbrev key : ℕ → CacheKey
-key n = record { file = n; kind = 0; index = 0 }
+key n = record { file = 0; kind = 0; index = n }
 
 -- a table of one slot, and the same with a load out
 abbrev one : State

@@ -1,9 +1,8 @@
 -- SPDX-License-Identifier: Apache-2.0
 -- Which chains have room: a greater table has room for every key of the old one; a chain has no more slots than are clean; and a full chain
 -- stays full. Assumes nothing.
-use Prim.Native.Nat.{ℕ, _+_, _*_, _%_, _^_, _<_, _≤_}
+use Prim.Native.Nat.{ℕ, _*_, _<_, _≤_}
 use native.Mathlib.Omega.{arith}
-use native.Mathlib.Nat.{mod-mod-of-dvd}
 use mathlib.Core.Path.{_≡_, refl, sym, ap, _∙_, subst}
 use mathlib.Core.Bool.{true}
 use lib.Dec.{ltb}
@@ -16,13 +15,13 @@ use Rattle.basics.proofs.Members.{cut, cut-shorter, in-cut, inject, in-map, in-
 use Rattle.key.specs.declared.CacheKey.{CacheKey}
 use Rattle.key.specs.Bucket.{bucketOf, bucketCount}
 use Rattle.key.proofs.Least.{counts-divide}
+use Rattle.key.proofs.Buckets.{bucket-low, bucket-coarse}
 use Rattle.index.specs.Chain.{CHAIN, canInsert}
 use Rattle.eviction.specs.Entries.{at, posOf}
 use Rattle.state.specs.declared.State.{State}
 use Rattle.state.specs.Slots.{slotAt, isClean}
 use Rattle.laws_table.specs.Table.{bucketIn, Inv, Absent}
 use Rattle.laws_table.proofs.ChainWalks.{can-insert}
-use Rattle.key.proofs.Buckets.{bucket-low}
 use Rattle.laws_table.proofs.SlotKinds.{clean-occupied}
 use Rattle.laws_table.proofs.TableParts.{heapSlots, heap-length, place-of, clean-len}
 use Rattle.laws_table.proofs.StepReserve.{chainOf}
@@ -76,12 +75,6 @@ full-over {n} {u} a b o k f =
     long-full u (b .inv) k (omega (arith, full-long n (a .inv) k f, inject (chainOf n (a .inv) k) (chainOf u (b .inv) k) (a .inv .chains .once (bucketOf k (n .index .buckets))) stays))
 
 -- ── a greater table ──
--- keys of one bucket are of one bucket among fewer, where the counts divide each other
-bucket-coarse : (a b : CacheKey) (m n j : ℕ) → n ≡ m * j → bucketOf a n ≡ bucketOf b n → bucketOf a m ≡ bucketOf b m
-unfolding bucketOf
-bucket-coarse a b m n j d e =
-    sym (mod-mod-of-dvd m ((a .file + a .kind + a .index) % 2 ^ 64) (∣ (j, d) ∣₁)) ∙ ap (λ (z : ℕ). z % m) e ∙ mod-mod-of-dvd m ((b .file + b .kind + b .index) % 2 ^ 64) (∣ (j, d) ∣₁)
-
 -- x of the new table has the key of q of the old one
 abbrev pub Same : State → State → ℕ → ℕ → Type 0
 Same o n x q = (x < n .capacity) × (isClean (slotAt n x) ≡ true) × (slotAt n x .key ≡ slotAt o q .key)

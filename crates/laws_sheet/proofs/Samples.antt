@@ -8,9 +8,9 @@ use Rattle.sheet_lines.specs.Text.{bytesOf}
 use Rattle.sheet.specs.Run.{runSheet}
 use Rattle.sheet.specs.Rules.{sheetRules}
 
--- a record: code, token place, the two low bytes of the number, and of the key its file; loads are allowed
+-- a record: code, token place, the two low bytes of the number, and of the key its index; loads are allowed
 abbrev rec : ℕ → ℕ → ℕ → ℕ → ℕ → List ℕ
-rec code place low high file = code ∷ 1 ∷ 0 ∷ place ∷ low ∷ high ∷ 0 ∷ 0 ∷ file ∷ replicate 15 0
+rec code place low high index = code ∷ 1 ∷ 0 ∷ place ∷ low ∷ high ∷ replicate 10 0 ++ index ∷ replicate 7 0
 
 -- new 0, 257 and 2; a publish and an abort of an empty place; slots 2 and 0 removed and pinned; resize to 0 and 257
 abbrev inputs : List ℕ

@@ -10,12 +10,13 @@ use original::make_aimed::aimed;
 use original::make_cases::cases;
 use original::make_gate::{every_list, lists};
 use original::make_gate_aimed::gate_aimed;
-use original::make_sheets::{Maker, exhaustive, exhaustive_deep};
+use original::make_sheets::{Maker, ends, exhaustive, exhaustive_deep};
 use original::sheet::Record;
 use original::written;
 
-const USAGE: &str = "usage: rust_gen SEED RECORDS | --exhaustive CAPACITY LENGTH | --deep CAPACITY LENGTH | --made-up SEED COUNT |
-    --aimed | --aimed-words | --gate SEED COUNT | --gate-exhaustive CAPACITY LENGTH | --gate-aimed | --gate-aimed-words | --records | --cases | --gate-cases";
+const USAGE: &str = "usage: rust_gen SEED RECORDS | --exhaustive CAPACITY LENGTH | --deep CAPACITY LENGTH | --ends CAPACITY |
+    --made-up SEED COUNT | --aimed | --aimed-words | --gate SEED COUNT | --gate-exhaustive CAPACITY LENGTH | --gate-aimed | --gate-aimed-words | --records |
+    --cases | --gate-cases";
 
 /// The lines of standard input that are not empty, each without what follows a # or =.
 fn lines() -> Vec<String> {
@@ -54,6 +55,7 @@ fn main() -> ExitCode {
     match words[..] {
         ["--exhaustive", capacity, length] => exhaustive(number(capacity) as u32, number(length) as u32, &mut emit),
         ["--deep", capacity, length] => exhaustive_deep(number(capacity) as u32, number(length) as u32, &mut emit),
+        ["--ends", capacity] => emit(&ends(number(capacity) as u32)),
         ["--made-up", seed, count] => cases(number(seed), number(count), &mut |case| emit(&bytes(|out| case.write_bytes(out)))),
         ["--aimed"] => aimed().iter().for_each(|(_, case)| emit(&bytes(|out| case.write_bytes(out)))),
         ["--aimed-words"] => aimed().iter().for_each(|(word, _)| emit(format!("{word}\n").as_bytes())),

@@ -1,6 +1,6 @@
 -- SPDX-License-Identifier: Apache-2.0
 -- Short names for what the lists of calls are written with. Assumes nothing.
-use Prim.Native.Nat.{ℕ}
+use Prim.Native.Nat.{ℕ, _*_, _-_}
 use mathlib.Core.Bool.{Bool}
 use Rattle.basics.specs.Try.{Try, ok, refuse}
 use Rattle.basics.specs.Answers.{Fine, done}
@@ -9,13 +9,20 @@ use Rattle.state.specs.declared.LoadToken.{LoadToken}
 use Rattle.state.specs.Answers.{Given, hit, inProgress, reserved, evicted, busy}
 use Rattle.ledger.specs.Ledger.{Held}
 
--- a key for each number
+-- a key for each number: pages in a row, so that keys of neighbouring numbers are of neighbouring buckets
 abbrev pub key : ℕ → CacheKey
-key n = record { file = n; kind = 0; index = 0 }
+key n = record { file = 0; kind = 0; index = n }
 
--- the token of a slot, a generation, a key and a use number
+-- a key of each file that has the sum: a file turned left by 5 bits is 32 times the file
+abbrev pub mate : ℕ → ℕ → CacheKey
+mate sum file = record { file = file; kind = 0; index = sum - 32 * file }
+
+-- the token of a slot, a generation, a key and a use number; and that of the key of a number
+abbrev pub tokenOf : ℕ → ℕ → CacheKey → ℕ → LoadToken
+tokenOf slot g k u = record { slot = slot; generation = g; key = k; «access_sequence» = u }
+
 abbrev pub token : ℕ → ℕ → ℕ → ℕ → LoadToken
-token slot g n u = record { slot = slot; generation = g; key = key n; «access_sequence» = u }
+token slot g n u = tokenOf slot g (key n) u
 
 -- the key of a number in a slot, clean or loading, and its last use
 abbrev pub held : ℕ → ℕ → Bool → ℕ → Held
