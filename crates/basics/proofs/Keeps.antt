@@ -2,7 +2,7 @@
 -- `keep` and `first` of a list, and how many of a list, or of the slots below a number, pass a test. Assumes nothing.
 use Prim.Native.Nat.{ℕ, zero, suc, ◌+◌, ◌<◌, ◌≤◌}
 use native.Mathlib.Omega.{arith}
-use mathlib.Core.Path.{◌≡◌, refl}
+use mathlib.Core.Path.{◌≡◌, refl, ap}
 use mathlib.Core.Bool.{Bool, true, false}
 use mathlib.Core.List.{List, [], ◌∷◌}
 use mathlib.Core.Option.{none, some}
@@ -83,8 +83,10 @@ count_put p b x (suc c) h =
     elim (is (eqb x c)) [
       | yes! e ↦
           let q : x ≡ c = eqb-true x c e in
-          let rest : count (put c b p) (down c) ≡ count p (down c) = count_agree (put c b p) p (down c) (λ y m. put_other c b p y (let lt = down_in c y m in λ z. omega arith)) in
-          rw (q, put_here c b p) (omega arith)
+          let rest : count (put x b p) (down c) ≡ count p (down c) = count_agree (put x b p) p (down c) (λ y m. put_other x b p y (let lt = down_in c y m in λ z. omega arith)) in
+          let here : bit (put x b p c) ≡ bit b = rw (← q) (ap bit (put_here x b p)) in
+          let same : bit (p x) ≡ bit (p c) = ap (λ (z : ℕ). bit (p z)) q in
+          omega arith
       | no! e ↦
           let n : x ≡ c → ⊥ = eqb-false x c e in
           let same : bit (put x b p c) ≡ bit (p c) = rw (put_other x b p c (λ z. omega arith)) in

@@ -1,6 +1,8 @@
 // SPDX-License-Identifier: Apache-2.0
 // What every crate is written with: the number for no slot, the numbers of the refusals, the answer of a step that hands back no
 // value, and the capacities that a table may have.
+#![tactic(auto)]
+
 ghost use Rattle.std.specs.Prelude.{◌≡◌};
 ghost use Rattle.basics.specs.Answers.{done_answer};
 ghost use Rattle.basics.specs.Capacity.{need_capacity};
@@ -48,7 +50,7 @@ pub const FULL: u8 = 11;
 
 pub const EMPTY: u8 = 12;
 
-#[derive(Drop)]
+#[derive(Clone, Copy)]
 pub enum Done {
     Done,
     Refused(u8),
@@ -62,6 +64,7 @@ pub fn wide(slot: u16) -> usize
 }
 
 // A counter with one more, which stops at 2^64 − 1.
+#[tactic(auto, using(crate::proofs::Tests::tests), unfolding(crate::specs::Numbers::more))]
 pub fn one_more(count: u64) -> u64
     ensures { result ≡ more count }
 {
@@ -72,6 +75,7 @@ pub fn one_more(count: u64) -> u64
 }
 
 // Whether a table can have this capacity: 1 for 0 and above 2^62, 2 for 257 to 2^62.
+#[tactic(auto, using(crate::proofs::Tests::tests), unfolding(crate::specs::Capacity::need_capacity))]
 pub fn check_capacity(capacity: usize) -> Done
     ensures { done_answer result ≡ need_capacity capacity }
 {

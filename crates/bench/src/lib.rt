@@ -3,6 +3,8 @@
 // are taken, and no line is written. One code is added to a run sheet's: 10 is access through a gate, which stays as at first. The local is an
 // answer of access, so that access, the most frequent call, hands its table back to where it stays: that is one copy of the table less than a
 // local of the type State costs.
+#![tactic(auto)]
+
 ghost use Rattle.std.specs.Prelude.{◌≡◌, min};
 ghost use Rattle.basics.specs.Answers.{done_answer};
 ghost use Rattle.state.specs.Answers.{access_answer, found_answer};
@@ -17,7 +19,7 @@ use maintenance_resize::Maintenance;
 use state::{Access, Accessed, Found, LoadToken, State};
 
 // A checksum that tells the order: the sum of the numbers, and the sum of those sums.
-#[derive(Drop)]
+#[derive(Clone, Copy)]
 struct Sum {
     first: u64,
     second: u64,

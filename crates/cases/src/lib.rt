@@ -1,6 +1,8 @@
 // SPDX-License-Identifier: Apache-2.0
 // What the programs over made-up tables share: cases are read, the calls that each of them makes alike are run, and answers are written.
 // oracle/README.md has the forms. As in `picture_numbers`, what is written ends at a place within `out`.
+#![tactic(auto)]
+
 ghost use Rattle.std.specs.Prelude.{◌≡◌, ◌+◌, ◌≤◌, ◌<◌, min, length};
 ghost use Rattle.cases.specs.Places.{Within};
 ghost use Rattle.cases.specs.Bytes.{FAR as farthest, byte_at, low, numbers_at, key_at, call_at};
@@ -14,7 +16,7 @@ use maintenance_resize::Maintenance;
 use state::{Access, CleanEntry, Counters, Found, LoadToken, Slot, State};
 
 // A call without the table that it is made on and without its pin bytes, whose number is `pins`.
-#[derive(Drop)]
+#[derive(Clone, Copy)]
 pub struct Call {
     pub code: u8,
     pub allow: bool,
@@ -25,34 +27,34 @@ pub struct Call {
 }
 
 // A table, and the place behind its bytes.
-#[derive(Drop)]
+#[derive(Clone, Copy)]
 pub struct Table {
     pub state: State,
     pub end: usize,
 }
 
 // A table after a call, and the place behind the answer's text.
-#[derive(Drop)]
+#[derive(Clone, Copy)]
 pub struct Ran {
     pub state: State,
     pub at: usize,
 }
 
 // The bytes from `at` to `have` wait; a read failed.
-#[derive(Drop)]
+#[derive(Clone, Copy)]
 pub struct Waiting {
     pub at: usize,
     pub have: usize,
     pub failed: bool,
 }
 
-#[derive(Drop)]
+#[derive(Clone, Copy)]
 struct Slots {
     slots: [Slot; 256],
     end: usize,
 }
 
-#[derive(Drop)]
+#[derive(Clone, Copy)]
 struct Entries {
     entries: [Entry; 256],
     end: usize,

@@ -4,6 +4,8 @@
 
 // state/eviction.rs: a heap of the clean slots, ordered by their last use, with the place of each slot: a new one, its reads and the victim
 // search. Each function works on any value: where the Rust would stop, the answer is the refusal 10.
+#![tactic(auto)]
+
 ghost use Rattle.std.specs.Prelude.{◌≡◌, ◌-◌, ◌≤◌, ◌++◌, replicate};
 ghost use Rattle.basics.specs.Numbers.{NONE};
 ghost use Rattle.eviction.specs.Answers.{moved_of, cold_answer};
@@ -12,27 +14,27 @@ ghost use Rattle.eviction.specs.Victim.{candidate_at, oldest_of, victim_of};
 
 use basics::{Done, MAX_CAPACITY, NONE, PINS, STOP};
 
-#[derive(Drop)]
+#[derive(Clone, Copy)]
 pub struct Entry {
     pub slot: u16,
     pub last_access: u64,
 }
 
-#[derive(Drop)]
+#[derive(Clone, Copy)]
 pub struct EvictionHeap {
     pub entries: [Entry; 256],
     pub len: usize,
     pub positions: [u16; 256],
 }
 
-#[derive(Drop)]
+#[derive(Clone, Copy)]
 pub struct Moved {
     pub heap: EvictionHeap,
     pub answer: Done,
 }
 
 // The answer of oldest, candidate and victim.
-#[derive(Drop)]
+#[derive(Clone, Copy)]
 pub enum Cold {
     At(usize),
     Nothing,

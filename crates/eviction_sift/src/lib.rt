@@ -4,6 +4,8 @@
 
 // state/eviction.rs, the changes of the heap: insert, touch and remove. Each function works on any value: where the Rust would stop, the answer
 // is the refusal 10 and the heap is as it came.
+#![tactic(auto)]
+
 ghost use Rattle.std.specs.Prelude.{◌≡◌};
 ghost use Rattle.eviction.specs.Answers.{moved_of};
 ghost use Rattle.eviction.specs.Heap.{insert_heap, touch_heap, remove_heap};

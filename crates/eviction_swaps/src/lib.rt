@@ -4,6 +4,8 @@
 
 // state/eviction.rs, the sifts: an entry of the heap moved up or down by swaps. They are parts of the heap's calls (crate eviction_sift), which meet
 // what the sifts require.
+#![tactic(auto)]
+
 ghost use Rattle.std.specs.Prelude.{◌≡◌, ◌+◌, ◌-◌, ◌*◌, ◌/◌, ◌≤◌, ◌<◌, leb};
 ghost use Rattle.basics.specs.Try.{refuse, if◌then◌else◌};
 ghost use Rattle.eviction.specs.Answers.{moved_of, try_moved};

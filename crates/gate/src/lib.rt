@@ -4,12 +4,14 @@
 
 // The gate of `maintain_capacity`: pauses, dirty pages, the pending mark and the generation. It is a value of its own beside the table; access and
 // resize go through it in crate `passage`. Every function works on any gate.
+#![tactic(auto)]
+
 ghost use Rattle.std.specs.Prelude.{◌≡◌};
 ghost use Rattle.gate.specs.Gate.{at_first, admits as admitsRule, turned_of, begin_pause, end_pause, begin_dirty, end_dirty};
 
 use basics::Done;
 
-#[derive(Drop)]
+#[derive(Clone, Copy)]
 pub struct Gate {
     pub pauses: u64,
     pub dirty: u64,
@@ -18,7 +20,7 @@ pub struct Gate {
 }
 
 // The gate after a pause or a dirty page began or ended.
-#[derive(Drop)]
+#[derive(Clone, Copy)]
 pub struct Turned {
     pub gate: Gate,
     pub answer: Done,

@@ -2,6 +2,8 @@
 // Runs calls on a table and its gate, and writes for each the answer, the gate and the table after the call, as `rust_gate` does of the original:
 // oracle/README.md has both forms. A case that is cut off, or has an unknown code or a first byte above 1, ends the program, and so does a read or a
 // write that fails.
+#![tactic(auto)]
+
 ghost use Rattle.std.specs.Prelude.{◌≡◌, ◌≤◌, length};
 ghost use Rattle.cases.specs.Places.{Within};
 
@@ -11,7 +13,7 @@ use gate::Gate;
 use state::State;
 
 // The table and the gate that a call is made on, and the place behind their bytes.
-#[derive(Drop)]
+#[derive(Clone, Copy)]
 struct Begun {
     state: State,
     gate: Gate,
@@ -19,7 +21,7 @@ struct Begun {
 }
 
 // Table and gate after a call, and the place behind the answer's text.
-#[derive(Drop)]
+#[derive(Clone, Copy)]
 struct Went {
     state: State,
     gate: Gate,
@@ -27,14 +29,14 @@ struct Went {
 }
 
 // A gate after a turn, and the place behind the answer's text.
-#[derive(Drop)]
+#[derive(Clone, Copy)]
 struct Turn {
     gate: Gate,
     at: usize,
 }
 
 // Table and gate after a case, what was taken of some bytes, and the place behind what was written.
-#[derive(Drop)]
+#[derive(Clone, Copy)]
 struct Taken {
     state: State,
     gate: Gate,

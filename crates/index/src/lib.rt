@@ -4,6 +4,8 @@
 
 // index.rs: the chains of slots and the stack of vacant slots: a new index, the stack, and what reads a chain. Each function works on any value:
 // where the Rust would stop, the answer is the refusal 10 and the index is as it came.
+#![tactic(auto)]
+
 ghost use Rattle.std.specs.Prelude.{◌-◌, ◌≤◌, ◌≡◌, ◌++◌, get_or, replicate};
 ghost use Rattle.basics.specs.Numbers.{NONE};
 ghost use Rattle.basics.specs.Lists.{down};
@@ -16,7 +18,7 @@ ghost use Rattle.index.specs.Fresh.{no_index, new_index};
 use basics::{Done, NONE, STOP};
 use key::{CacheKey, Count};
 
-#[derive(Drop)]
+#[derive(Clone, Copy)]
 pub struct Index {
     pub heads: [u16; 512],
     pub buckets: usize,
@@ -25,14 +27,14 @@ pub struct Index {
     pub free_len: usize,
 }
 
-#[derive(Drop)]
+#[derive(Clone, Copy)]
 pub struct Moved {
     pub index: Index,
     pub answer: Done,
 }
 
 // Whether a chain takes one more slot.
-#[derive(Drop)]
+#[derive(Clone, Copy)]
 pub enum Room {
     Yes,
     No,
@@ -40,7 +42,7 @@ pub enum Room {
 }
 
 // The top of the stack of vacant slots.
-#[derive(Drop)]
+#[derive(Clone, Copy)]
 pub enum Top {
     At(usize),
     Nothing,

@@ -4,6 +4,8 @@
 
 // index.rs, the chains: whether one takes a slot, a slot put in or taken out, and one given up. Each function works on any value: where the Rust
 // would stop, the answer is the refusal 10 and the index is as it came.
+#![tactic(auto)]
+
 ghost use Rattle.std.specs.Prelude.{◌≡◌};
 ghost use Rattle.index.specs.declared.Index.{Index};
 ghost use Rattle.index.specs.Answers.{moved_of, room_answer};

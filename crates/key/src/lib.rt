@@ -3,6 +3,8 @@
 // Ported from src/fs/cache/key.rs of HypeR-Proj/kernel at 53afd06a1d, changed; see NOTICE.
 
 // Document 01's key and its bucket, in place of the Rust's key.rs; and the bucket counts, which the Rust works out in index.rs.
+#![tactic(auto)]
+
 ghost use Rattle.std.specs.Prelude.{◌≡◌};
 ghost use Rattle.key.specs.Key.{same_key};
 ghost use Rattle.key.specs.Bucket.{rotated, bucket_of, count_for};
@@ -10,14 +12,14 @@ ghost use Rattle.key.specs.Answers.{count_answer};
 
 use basics::Done;
 
-#[derive(Drop)]
+#[derive(Clone, Copy)]
 pub struct CacheKey {
     pub file: u64,
     pub kind: u8,
     pub index: u64,
 }
 
-#[derive(Drop)]
+#[derive(Clone, Copy)]
 pub enum Count {
     Of(usize),
     Refused(u8),

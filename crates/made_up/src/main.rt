@@ -2,6 +2,8 @@
 // Reads made-up tables, each with one call, and writes for each the answer and the table after the call, as `rust_made_up` does of the
 // original: oracle/README.md has both forms. A case that is cut off, or has an unknown code, ends the program, and so does a read or a
 // write that fails.
+#![tactic(auto)]
+
 ghost use Rattle.std.specs.Prelude.{◌≡◌, ◌≤◌, length};
 ghost use Rattle.cases.specs.Places.{Within};
 
@@ -10,7 +12,7 @@ use key::CacheKey;
 use state::State;
 
 // What was taken of some bytes, and the place behind what was written.
-#[derive(Drop)]
+#[derive(Clone, Copy)]
 struct Taken {
     used: usize,
     written: usize,

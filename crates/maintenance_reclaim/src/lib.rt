@@ -3,6 +3,8 @@
 // Ported from src/fs/cache/maintenance.rs of HypeR-Proj/kernel at 53afd06a1d, changed; see NOTICE.
 
 // maintenance.rs, reclaim (`reclaim_batch`). It works on any table; a refusal hands back the table as it came.
+#![tactic(auto)]
+
 ghost use Rattle.std.specs.Prelude.{◌≡◌, true, ◌≤◌};
 ghost use Rattle.basics.specs.Try.{refuse};
 ghost use Rattle.state.specs.Fresh.{sound};
@@ -17,7 +19,7 @@ use state::State;
 pub const RECLAIM_BATCH: usize = 64;
 
 // What reclaim hands back: the slots removed in order, then 65535, and how many they are.
-#[derive(Drop)]
+#[derive(Clone, Copy)]
 pub struct Batch {
     pub state: State,
     pub slots: [u16; 64],

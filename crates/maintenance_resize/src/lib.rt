@@ -4,6 +4,8 @@
 
 // maintenance.rs, resize (`maintain_capacity` after its gate). It works on any table; a refusal hands back the table, and the lent list, as they
 // came.
+#![tactic(auto)]
+
 ghost use Rattle.std.specs.Prelude.{◌≡◌, true, ◌&&◌, eqb, ltb, ◌≤◌, ◌<◌, length, take};
 ghost use Rattle.state.specs.Fresh.{sound};
 ghost use Rattle.maintenance_resize.specs.Answers.{maintained_after};
@@ -16,7 +18,7 @@ use maintenance_restore::restore::Fit;
 use state::State;
 
 // The answer of resize; `Resized` has the new capacity.
-#[derive(Drop)]
+#[derive(Clone, Copy)]
 pub enum Maintenance {
     Unchanged,
     Busy,
@@ -24,7 +26,7 @@ pub enum Maintenance {
     Refused(u8),
 }
 
-#[derive(Drop)]
+#[derive(Clone, Copy)]
 pub struct Maintained {
     pub state: State,
     pub answer: Maintenance,

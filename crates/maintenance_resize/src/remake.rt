@@ -16,7 +16,7 @@ use maintenance_restore::restore::{Fit, restore};
 use state::{Finished, Found, State};
 
 // A table with a list of slots, one for each slot of the old table.
-#[derive(Drop)]
+#[derive(Clone, Copy)]
 pub(crate) struct Listed {
     pub(crate) state: State,
     pub(crate) list: [u16; 256],

@@ -4,5 +4,7 @@
 
 // maintenance.rs, what resize does before it remakes a table: the pins, and a new table with the pinned keys. These are parts of resize and not what a
 // user calls.
+#![tactic(auto)]
+
 pub mod pins;
 pub mod restore;

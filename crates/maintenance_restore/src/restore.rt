@@ -15,7 +15,7 @@ use key::CacheKey;
 use state::{Slot, State};
 
 // Whether a key was restored.
-#[derive(Drop)]
+#[derive(Clone, Copy)]
 pub enum Fit {
     Yes,
     No,
@@ -23,14 +23,14 @@ pub enum Fit {
 }
 
 // The table with the keys restored, where there was room.
-#[derive(Drop)]
+#[derive(Clone, Copy)]
 pub struct Restored {
     pub state: State,
     pub answer: Fit,
 }
 
 // Index and heap with a key in a vacant slot, and that slot.
-#[derive(Drop)]
+#[derive(Clone, Copy)]
 struct Placed {
     index: Index,
     heap: EvictionHeap,

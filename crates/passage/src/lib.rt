@@ -3,6 +3,8 @@
 // Ported from src/fs/cache/maintenance.rs and src/fs/cache/mod.rs of HypeR-Proj/kernel at 53afd06a1d, changed; see NOTICE.
 
 // Access and resize through the gate of `maintain_capacity`. They work on any table and any gate; the calls without the gate stay beside them.
+#![tactic(auto)]
+
 ghost use Rattle.std.specs.Prelude.{◌≡◌, List, ℕ, ◌<◌};
 ghost use Rattle.basics.specs.Numbers.{MAX};
 ghost use Rattle.basics.specs.Answers.{done_answer};
@@ -20,7 +22,7 @@ use maintenance_resize::Maintenance;
 use state::{Accessed, State};
 
 // Table and gate after resize.
-#[derive(Drop)]
+#[derive(Clone, Copy)]
 pub struct Passed {
     pub state: State,
     pub gate: Gate,

@@ -1,6 +1,8 @@
 // SPDX-License-Identifier: Apache-2.0
 // Tables in plain numbers, as oracle/README.md has them: what the programs `trace`, `made_up` and `gate_trace` share. As in `picture_numbers`, every
 // function writes from a place of `out` on and answers the place behind what it wrote, which is always within `out`.
+#![tactic(auto)]
+
 ghost use Rattle.std.specs.Prelude.{◌≡◌, take, drop};
 ghost use Rattle.picture_numbers.specs.Wrote.{Wrote};
 ghost use Rattle.picture_numbers.specs.Numbers.{spaced, told, held, past};

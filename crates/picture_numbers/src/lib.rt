@@ -1,6 +1,8 @@
 // SPDX-License-Identifier: Apache-2.0
 // Texts and numbers written into a list of bytes. Every function writes from a place of `out` on and answers the place behind what it wrote.
 // Where there is no room it writes less, and a place past the end is taken for the end, so an answer is always within `out`.
+#![tactic(auto)]
+
 ghost use Rattle.std.specs.Prelude.{◌≡◌, false, [], ◌∷◌, ◌+◌, ◌≤◌, ◌<◌, ◌^◌, min, length, take, drop, leb};
 ghost use Rattle.basics.specs.Try.{if◌then◌else◌};
 ghost use Rattle.sheet_lines.specs.Text.{decimal};
@@ -8,14 +10,14 @@ ghost use Rattle.picture_numbers.specs.Wrote.{Wrote};
 ghost use Rattle.picture_numbers.specs.Numbers.{word_numbers, spaced, all_zero, placed, told, held, past};
 
 // How many bytes wait to be written, and whether a write failed.
-#[derive(Drop)]
+#[derive(Clone, Copy)]
 pub struct Waits {
     pub count: usize,
     pub failed: bool,
 }
 
 // The place behind what was written of a list, and how many of its places are not 0.
-#[derive(Drop)]
+#[derive(Clone, Copy)]
 pub struct Walked {
     pub at: usize,
     pub held: usize,

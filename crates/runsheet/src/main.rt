@@ -1,5 +1,7 @@
 // SPDX-License-Identifier: Apache-2.0
 // Runs a sheet: records from standard input, lines to standard output. A read or a write that fails is told on standard error and ends it.
+#![tactic(auto)]
+
 use libc::STDERR_FILENO;
 
 // A block of input: 2048 records of 24 bytes.

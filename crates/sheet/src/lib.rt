@@ -1,5 +1,7 @@
 // SPDX-License-Identifier: Apache-2.0
 // A whole run sheet of document 01, a block of bytes at a time.
+#![tactic(auto)]
+
 ghost use Rattle.std.specs.Prelude.{◌≡◌, ◌++◌, ◌+◌, ◌≤◌, length, take, drop};
 ghost use Rattle.basics.specs.Try.{if◌then◌else◌};
 ghost use Rattle.sheet_lines.specs.Words.{line_of, text_of};
@@ -10,7 +12,7 @@ use sheet_standing::Standing;
 use sheet_steps::Stepped;
 
 // What stands after a block of records, the number of the next record, how many bytes were printed, and whether `bad` ended it.
-#[derive(Drop)]
+#[derive(Clone, Copy)]
 pub struct Ran {
     pub standing: Standing,
     pub number: u64,

@@ -1,5 +1,7 @@
 // SPDX-License-Identifier: Apache-2.0
 // The records and lines of document 01's run sheets, on bytes, with the rules of both: a record is read. Crate `sheet_words` writes a line.
+#![tactic(auto)]
+
 ghost use Rattle.std.specs.Prelude.{◌≡◌, ◌+◌, ◌≤◌, ◌<◌, ◌^◌, length};
 ghost use Rattle.sheet_lines.specs.Record.{low, read_record, place_of};
 ghost use Rattle.sheet_lines.specs.Words.{is_bad};
@@ -7,7 +9,7 @@ ghost use Rattle.sheet_lines.specs.Words.{is_bad};
 use key::CacheKey;
 
 // A record's fields. The bytes of file, kind and index are a key.
-#[derive(Drop)]
+#[derive(Clone, Copy)]
 pub struct Record {
     pub code: u8,
     pub allow: bool,
@@ -17,14 +19,14 @@ pub struct Record {
 }
 
 // What stands at the front of some bytes.
-#[derive(Drop)]
+#[derive(Clone, Copy)]
 pub enum Read {
     Whole(Record),
     Bad,
 }
 
 // The word of a line, with its number.
-#[derive(Drop)]
+#[derive(Clone, Copy)]
 pub enum Said {
     Made(usize),
     Hit(usize),
@@ -42,7 +44,7 @@ pub enum Said {
 }
 
 // A line of text, filled from the end of its bytes: it begins at `from`.
-#[derive(Drop)]
+#[derive(Clone, Copy)]
 pub struct Line {
     pub bytes: [u8; 96],
     pub from: usize,

@@ -1,5 +1,7 @@
 // SPDX-License-Identifier: Apache-2.0
 // A record of a run sheet as its 24 bytes. They are read as the record again.
+#![tactic(auto)]
+
 ghost use Rattle.std.specs.Prelude.{◌≡◌, ◌/◌, ◌%◌};
 ghost use Rattle.basics.specs.Try.{if◌then◌else◌};
 ghost use Rattle.sheet_lines.specs.declared.Read.{Read};
@@ -9,7 +11,7 @@ ghost use Rattle.sheet_record.specs.Good.{good, bit_of, four_value};
 use sheet_lines::Record;
 
 // Four bytes of a number, low byte first.
-#[derive(Drop)]
+#[derive(Clone, Copy)]
 struct Four {
     a: u8,
     b: u8,

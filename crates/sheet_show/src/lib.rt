@@ -1,6 +1,8 @@
 // SPDX-License-Identifier: Apache-2.0
 // A record of a run sheet as a line of text that a person can read (sheets/README.md): the call's word with its number, then the
 // fields by their names. A field that the call does not use is 0 in such a line; a record where one is not is shown as `record` with every field.
+#![tactic(auto)]
+
 ghost use Rattle.std.specs.Prelude.{◌≡◌, ◌++◌, ◌+◌, ◌≤◌, length};
 ghost use Rattle.sheet_lines.specs.Text.{decimal};
 ghost use Rattle.sheet_show.specs.Form.{shown, word_text, call_text, record_text, head_text, field_text, usual_allow, text_of};
@@ -13,7 +15,7 @@ use sheet_uses::{only_used, uses_number};
 pub const ROOM: usize = 200;
 
 // A record's line: the first bytes.
-#[derive(Drop)]
+#[derive(Clone, Copy)]
 pub struct Text {
     pub bytes: [u8; 200],
     pub len: usize,

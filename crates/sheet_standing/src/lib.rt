@@ -1,6 +1,8 @@
 // SPDX-License-Identifier: Apache-2.0
 
 // What stands between two records of a run sheet.
+#![tactic(auto)]
+
 ghost use Rattle.std.specs.Prelude.{◌≡◌};
 ghost use Rattle.sheet_standing.specs.Standing.{empty_place, start as startRule, afresh as afreshRule};
 
@@ -8,14 +10,14 @@ use key::CacheKey;
 use state::{LoadToken, State};
 
 // A token place.
-#[derive(Drop)]
+#[derive(Clone, Copy)]
 pub struct Place {
     pub token: LoadToken,
     pub full: bool,
 }
 
 // What stands between two records: the table, the token places, a pin byte for each slot, and whether there was a table made.
-#[derive(Drop)]
+#[derive(Clone, Copy)]
 pub struct Standing {
     pub state: State,
     pub places: [Place; 16],

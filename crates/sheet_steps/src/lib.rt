@@ -1,5 +1,7 @@
 // SPDX-License-Identifier: Apache-2.0
 // The run sheets of document 01: the step that a record makes.
+#![tactic(auto)]
+
 ghost use Rattle.std.specs.Prelude.{◌≡◌, Bool, List, ℕ, ◌≤◌, ◌<◌, min, length, set};
 ghost use Rattle.basics.specs.Try.{if◌then◌else◌};
 ghost use Rattle.basics.specs.Answers.{done_answer};
@@ -15,7 +17,7 @@ use sheet_lines::{Read, Said};
 use sheet_standing::{Place, Standing};
 use state::{Access, Found, State};
 
-#[derive(Drop)]
+#[derive(Clone, Copy)]
 pub struct Stepped {
     pub standing: Standing,
     pub said: Said,
@@ -42,7 +44,7 @@ fn pin_to(pins: &mut [u8; 256], slot: usize, pin: u8)
 }
 
 // The pins after a record, and what it said.
-#[derive(Drop)]
+#[derive(Clone, Copy)]
 struct Pinned {
     pins: [u8; 256],
     said: Said,

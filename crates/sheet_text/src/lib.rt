@@ -1,5 +1,7 @@
 // SPDX-License-Identifier: Apache-2.0
 // A line of a run sheet's text form read (sheets/README.md): one call a line, with names for fields. Crate `sheet_show` has the way back.
+#![tactic(auto)]
+
 ghost use Rattle.std.specs.Prelude.{◌≡◌, true, ◌+◌, ◌≤◌, ◌<◌, length, drop};
 ghost use Rattle.basics.specs.Try.{if◌then◌else◌};
 ghost use Rattle.sheet_text.specs.Parse.{is_blank, counts_as, run_of, same_bytes, word_size, word_place, number_try, number_of, field_of, least, most};
@@ -13,7 +15,7 @@ use sheet_lines::Record;
 use sheet_uses::uses;
 
 // What is wrong with a line, and the word that is wrong: from its first byte to behind its last.
-#[derive(Drop)]
+#[derive(Clone, Copy)]
 pub struct Fault {
     pub why: u8,
     pub from: usize,
@@ -21,7 +23,7 @@ pub struct Fault {
 }
 
 // What a line of text says: a call, nothing (an empty line, or only a comment), or what is wrong with it.
-#[derive(Drop)]
+#[derive(Clone, Copy)]
 pub enum Parsed {
     Call(Record),
     Nothing,
@@ -57,21 +59,21 @@ const MUST: u8 = 2;
 const WAS: u8 = 3;
 
 // A word of a text: from its first byte to behind its last.
-#[derive(Drop)]
+#[derive(Clone, Copy)]
 struct Span {
     from: usize,
     to: usize,
 }
 
 // A number in a line.
-#[derive(Drop)]
+#[derive(Clone, Copy)]
 enum Number {
     Is(u64),
     Wrong(u8),
 }
 
 // A call with the fields read so far: their values, what the line asks of each, and what is wrong with the last word, or 0.
-#[derive(Drop)]
+#[derive(Clone, Copy)]
 struct Begun {
     values: [u64; 7],
     asks: [u8; 7],

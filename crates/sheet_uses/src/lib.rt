@@ -1,5 +1,7 @@
 // SPDX-License-Identifier: Apache-2.0
 // The fields that a call of a run sheet uses, and the records where every other field is 0.
+#![tactic(auto)]
+
 ghost use Rattle.std.specs.Prelude.{◌≡◌, ◌&&◌};
 ghost use Rattle.sheet_uses.specs.Uses.{uses_key, uses_place, uses_allow, uses_number, uses, fits, is_code, only_used};
 

@@ -1,5 +1,7 @@
 // SPDX-License-Identifier: Apache-2.0
 // A line of document 01's run sheets written: the number of the record, the word, its number, the clean slots and the loading ones.
+#![tactic(auto)]
+
 ghost use Rattle.std.specs.Prelude.{◌≡◌, ◌∷◌, ◌++◌, ◌+◌, ◌≤◌, ◌<◌, length};
 ghost use Rattle.sheet_lines.specs.Text.{decimal};
 ghost use Rattle.sheet_lines.specs.Words.{word_of, number_of, tail_of, line_of, text_of};

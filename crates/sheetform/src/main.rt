@@ -3,6 +3,8 @@
 // writes, `records` or `text`. What is wrong with the input, a read or a write that fails, and how the program is used it says on standard
 // error, and ends; what it wrote before stays. What a line says is crate `sheet_text`'s, the line of a record `sheet_show`'s; here are the
 // lines of a block, and the blocks of the input.
+#![tactic(auto)]
+
 ghost use Rattle.std.specs.Prelude.{◌≡◌, ◌+◌, ◌/◌, ◌≤◌, ◌++◌, length, take};
 ghost use Rattle.sheet_show.specs.Form.{listed_text, text_of};
 
@@ -21,7 +23,7 @@ const NO_ROOM: u8 = 9;
 const LINE: usize = 256;
 
 // A line that has begun, with the number of lines before it.
-#[derive(Drop)]
+#[derive(Clone, Copy)]
 struct Reading {
     line: [u8; 256],
     len: usize,
@@ -29,7 +31,7 @@ struct Reading {
 }
 
 // What a block came to: the line that has begun, the bytes written, and what is wrong with that line; why is 0 where nothing is.
-#[derive(Drop)]
+#[derive(Clone, Copy)]
 struct Turned {
     reading: Reading,
     written: usize,
@@ -37,7 +39,7 @@ struct Turned {
 }
 
 // What a block of records came to: the bytes written, the records before the first bad one, and whether there is a bad one.
-#[derive(Drop)]
+#[derive(Clone, Copy)]
 struct Listed {
     written: usize,
     records: usize,
@@ -45,7 +47,7 @@ struct Listed {
 }
 
 // What a line of text adds to the records written: their bytes in all, and what is wrong with the line.
-#[derive(Drop)]
+#[derive(Clone, Copy)]
 struct Added {
     written: usize,
     fault: Fault,
@@ -281,14 +283,14 @@ fn say_wrong(reading: Reading, fault: Fault) {
 }
 
 // What a block of text came to: the line that has begun, and whether another block follows.
-#[derive(Drop)]
+#[derive(Clone, Copy)]
 struct Block {
     reading: Reading,
     next: bool,
 }
 
 // What a block of records came to: the number of the next record, and whether another block follows.
-#[derive(Drop)]
+#[derive(Clone, Copy)]
 struct Numbered {
     number: u64,
     next: bool,

@@ -4,6 +4,8 @@
 
 // state/mod.rs, the call that makes a load: access (the Rust's `access_with_victim`). It works on any table and any pin bytes; a refusal hands
 // the table back as it came, but for the generation that 7 in a reservation uses up.
+#![tactic(auto)]
+
 ghost use Rattle.std.specs.Prelude.{◌≡◌};
 ghost use Rattle.basics.specs.Try.{refuse};
 ghost use Rattle.state.specs.Answers.{accessed_after};
@@ -17,7 +19,7 @@ use key::CacheKey;
 use state::{Access, Accessed, Counters, LoadToken, Slot, State};
 
 // Index, heap and number of clean slots once a slot is free for a key, and whether a clean key left it.
-#[derive(Drop)]
+#[derive(Clone, Copy)]
 struct Freed {
     index: Index,
     heap: EvictionHeap,

@@ -4,6 +4,8 @@
 
 // state/mod.rs, the choice of the slot that an absent key is loaded into: the top of the free stack, else a victim. Every function works on any
 // index, heap and pin bytes.
+#![tactic(auto)]
+
 ghost use Rattle.std.specs.Prelude.{◌≡◌};
 ghost use Rattle.state.specs.Access.{choose as chooseRule};
 ghost use Rattle.eviction.specs.Answers.{cold_answer};

@@ -3,6 +3,8 @@
 // Ported from src/fs/cache/state/mod.rs of HypeR-Proj/kernel at 53afd06a1d, changed; see NOTICE.
 
 // state/mod.rs, lookup. It works on any table; a refusal hands the table back as it came.
+#![tactic(auto)]
+
 ghost use Rattle.std.specs.Prelude.{◌≡◌};
 ghost use Rattle.state.specs.Answers.{looked_after};
 ghost use Rattle.state.specs.Lookup.{lookup as lookupRule};

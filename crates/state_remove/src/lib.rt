@@ -4,6 +4,8 @@
 
 // state/mod.rs, the calls that take a clean key out of the table: remove_clean, which counts an eviction, and detach_clean, which does
 // not. Every call works on any table; a refusal hands the table back as it came.
+#![tactic(auto)]
+
 ghost use Rattle.std.specs.Prelude.{◌≡◌};
 ghost use Rattle.basics.specs.Try.{refuse};
 ghost use Rattle.state.specs.Answers.{finished_after};

@@ -4,6 +4,8 @@
 
 // state/mod.rs, what the searches of a key's chain share, and peek_clean. Lookup (`state_lookup`) and access (`state_access`) walk the chain themselves:
 // a function of its own would take the table by value, which copies it. Every function works on any table.
+#![tactic(auto)]
+
 ghost use Rattle.std.specs.Prelude.{◌≡◌};
 ghost use Rattle.eviction.specs.Answers.{moved_of as heap_moved_of};
 ghost use Rattle.state.specs.Slots.{occupied, clean_with};

@@ -1,13 +1,15 @@
 // SPDX-License-Identifier: Apache-2.0
 // Standard input and output of the programs. A read or a write that fails is told on standard error, and the caller stops: a program has no
 // exit status. Which bytes are read and written no contract can say.
+#![tactic(auto)]
+
 ghost use Rattle.std.specs.Prelude.{◌≡◌, true, ◌≤◌, length};
 ghost use Rattle.io.specs.Counts.{IsPrefixLen};
 
 use libc::{STDIN_FILENO, STDOUT_FILENO};
 
 // How many bytes of a block were read, and whether a read failed.
-#[derive(Drop)]
+#[derive(Clone, Copy)]
 pub struct Got {
     pub count: usize,
     pub failed: bool,

@@ -1,6 +1,8 @@
 // SPDX-License-Identifier: Apache-2.0
 // Runs a sheet from standard input, and writes for each record its line and the whole table behind it: the trace of oracle/README.md,
 // which `rust_sheet --trace` writes of the original. A read or a write that fails ends it.
+#![tactic(auto)]
+
 ghost use Rattle.std.specs.Prelude.{◌≡◌, length, drop};
 ghost use Rattle.sheet_lines.specs.Words.{text_of};
 ghost use Rattle.picture_numbers.specs.Wrote.{Wrote};
@@ -11,7 +13,7 @@ use sheet_lines::{Line, Said};
 use sheet_standing::Standing;
 
 // What stands after a block of records, and whether there is an end: a bad record, or a write that failed.
-#[derive(Drop)]
+#[derive(Clone, Copy)]
 struct Ran {
     standing: Standing,
     number: u64,

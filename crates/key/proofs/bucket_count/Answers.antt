@@ -10,8 +10,7 @@ use Rattle.basics.specs.Capacity.{need_capacity}
 use Rattle.basics.proofs.Capacities.{capacity_fits}
 use Rattle.key.specs.Bucket.{bucket_count, count_for}
 use Rattle.key.proofs.Least.{exponents, count_zeros, few_buckets}
-use Rattle.key.proofs.bucket_count.Statement.{statement}
-use Rattle.key.proofs.bucket_count.Tie as tie
+use Rattle.key.proofs.bucket_count.Goals as goal
 
 -- what the check of the capacity told
 fits : {c : ℕ} {d : Done} → done_answer d ≡ need_capacity c → d ≡ Done.Done → (0 < c) × (c ≤ 256)
@@ -38,34 +37,20 @@ at_least n h f =
     let len = leading_length 64 n (omega arith) in
     omega (arith, len.1, exponents len.0 10 (omega (arith, len.3)))
 
-returns : tie.Need-returns
-returns c = refused _ c.before.before.before.check-capacity.ensures c.before.checked.given.1
+pub returns-in-Refused : goal.returns-in-Refused
+returns-in-Refused c = refused _ c.check_capacity-checked.ensures c.in-Refused.is
 
-sub-predecessor : tie.Need-overflow-sub-predecessor
-sub-predecessor c = let f = fits c.before.before.check-capacity.ensures c.enum_told.given.1 in omega arith
+pub overflow_sub-predecessor : goal.overflow_sub-predecessor
+overflow_sub-predecessor c = let f = fits c.check_capacity-checked.ensures c.in_default.is in omega arith
 
-sub-t6 : tie.Need-overflow-sub-t6
-sub-t6 c = at_most _ (omega arith)
+pub overflow_sub-result : goal.overflow_sub-result
+overflow_sub-result c = at_most _ (omega arith)
 
-shl-t8 : tie.Need-overflow-shl-t8
-shl-t8 c = let f = fits c.before.before.check-capacity.ensures c.enum_told.given.1 in at_least _ (omega arith) (omega arith)
+pub overflow_shl-result : goal.overflow_shl-result
+overflow_shl-result c = let f = fits c.check_capacity-checked.ensures c.in_default.is in at_least _ (omega arith) (omega arith)
 
-returns-2 : tie.Need-returns-2
-returns-2 c =
-    let checked = c.before.before.check-capacity.ensures in
-    let done = c.enum_told.given.1 in
+pub returns : goal.returns
+returns c =
+    let checked = c.check_capacity-checked.ensures in
+    let done = c.in_default.is in
     counted _ checked done (shifted (fits checked done))
-
-pub bucket-count-spec : {M : Type 1} → statement M
-bucket-count-spec =
-    tie.close
-    (tie.spec
-    (λ c κs. search rules)
-    (λ c. search rules)
-    returns
-    (λ c. search rules)
-    sub-predecessor
-    sub-t6
-    (λ c. search rules)
-    shl-t8
-    returns-2)

@@ -14,8 +14,7 @@ use Rattle.basics.proofs.Capacities.{capacity_fits}
 use Rattle.eviction.specs.declared.Moved.{Moved}
 use Rattle.eviction.specs.Answers.{moved_of}
 use Rattle.eviction.specs.Entries.{heap_of, entry_of, no_heap, fresh_heap, new_heap}
-use Rattle.eviction.proofs.EvictionHeap.try_new.Statement.{statement}
-use Rattle.eviction.proofs.EvictionHeap.try_new.Tie as tie
+use Rattle.eviction.proofs.EvictionHeap.try_new.Goals as goal
 
 -- the answer of the check, in the rule
 refused : (c : ℕ) {d : Done} {n : ℕ} → done_answer d ≡ need_capacity c → d ≡ Done.Refused n → moved_of no_heap (refuse n) ≡ moved_of no_heap (new_heap c)
@@ -27,23 +26,12 @@ made : (c : ℕ) {d : Done} {places : List ℕ} → done_answer d ≡ need_capac
 unfolding new_heap fresh_heap
 made c e q w = rw (← e, q, w)
 
-filled-positions-requires : tie.Need-filled-positions-requires
-filled-positions-requires c κs = let f = capacity_fits _ (sym c.before.before.check-capacity.ensures ∙ ap done_answer c.enum_told.given.1) in f.1
+pub filled_positions-positions-requires : goal.filled_positions-positions-requires
+filled_positions-positions-requires c = let f = capacity_fits _ (sym c.check_capacity-checked.ensures ∙ ap done_answer c.in-Done.is) in f.1
 
-returns : tie.Need-returns
+pub returns-in-Refused : goal.returns-in-Refused
 unfolding no_heap
-returns c = refused _ c.before.before.before.check-capacity.ensures c.before.checked.given.1
+returns-in-Refused c = refused _ c.check_capacity-checked.ensures c.in-Refused.is
 
-returns-2 : tie.Need-returns-2
-returns-2 c = made _ c.before.before.before.check-capacity.ensures c.before.enum_told.given.1 c.filled-positions.ensures
-
-pub try-new-spec : {M : Type 1} → statement M
-try-new-spec =
-    tie.close
-    (tie.spec
-    (λ c κs. search rules)
-    (λ c. search rules)
-    (λ c. search rules)
-    filled-positions-requires
-    returns
-    returns-2)
+pub returns-in-Done : goal.returns-in-Done
+returns-in-Done c = made _ c.check_capacity-checked.ensures c.in-Done.is c.filled_positions-positions.ensures

@@ -13,8 +13,7 @@ use Rattle.key.specs.Answers.{count_answer}
 use Rattle.key.specs.Bucket.{bucket_count, count_for}
 use Rattle.index.specs.Fresh.{fresh_index, no_index, new_index}
 use Rattle.key.proofs.Least.{few_buckets}
-use Rattle.index.proofs.Index.try_new.Statement.{statement}
-use Rattle.index.proofs.Index.try_new.Tie as tie
+use Rattle.index.proofs.Index.try_new.Goals as goal
 
 -- what the bucket count told of the capacity
 stopped : (x : Try Fine) (m : ℕ) {n : ℕ} → ◌≡◌ {A = Try ℕ} (refuse n) (x >> ok m) → x ≡ refuse n
@@ -42,32 +41,19 @@ made c e q =
     let f = capacity_fits c p.0 in
     record { some = f.0; small = f.1; equal = p.1; new = rw p.0 }
 
-empty-heads-requires : tie.Need-empty-heads-requires
-empty-heads-requires c κs = let m = made _ c.before.before.before.bucket-count.ensures c.before.counted2.given.1 in rw m.equal (few_buckets _ m.small)
+pub empty_heads-heads-requires : goal.empty_heads-heads-requires
+empty_heads-heads-requires c = let m = made _ c.bucket_count-counted.ensures c.in-Of.is in rw m.equal (few_buckets _ m.small)
 
-empty-next-requires : tie.Need-empty-next-requires
-empty-next-requires c κs = (made _ c.before.before.before.before.bucket-count.ensures c.before.before.counted2.given.1).small
+pub empty_next-next-requires : goal.empty_next-next-requires
+empty_next-next-requires c = (made _ c.bucket_count-counted.ensures c.in-Of.is).small
 
-full-stack-requires : tie.Need-full-stack-requires
-full-stack-requires c κs = (made _ c.before.before.before.before.before.bucket-count.ensures c.before.before.before.counted2.given.1).small
+pub full_stack-free-requires : goal.full_stack-free-requires
+full_stack-free-requires c = (made _ c.bucket_count-counted.ensures c.in-Of.is).small
 
-returns : tie.Need-returns
+pub returns-in-Refused : goal.returns-in-Refused
 unfolding no_index
-returns c = rw (refused _ c.before.before.before.bucket-count.ensures c.before.counted.given.1)
+returns-in-Refused c = rw (refused _ c.bucket_count-counted.ensures c.in-Refused.is)
 
-returns-2 : tie.Need-returns-2
+pub returns-in-Of : goal.returns-in-Of
 unfolding fresh_index
-returns-2 c = let m = made _ c.before.before.before.before.before.before.bucket-count.ensures c.before.before.before.before.counted2.given.1 in rw (m.new, c.before.before.empty-heads.ensures, c.before.empty-next.ensures, c.full-stack.ensures, m.equal)
-
-pub try-new-spec : {M : Type 1} → statement M
-try-new-spec =
-    tie.close
-    (tie.spec
-    (λ c κs. search rules)
-    (λ c. search rules)
-    (λ c. search rules)
-    empty-heads-requires
-    empty-next-requires
-    full-stack-requires
-    returns
-    returns-2)
+returns-in-Of c = let m = made _ c.bucket_count-counted.ensures c.in-Of.is in rw (m.new, c.empty_heads-heads.ensures, c.empty_next-next.ensures, c.full_stack-free.ensures, m.equal)

@@ -3,8 +3,7 @@
 use Rattle.std.proofs.Common.{◌≡◌, ℕ, ◌*◌, ◌/◌, ◌%◌, ◌^◌, ◌<◌, arith}
 use lib.Bits.{bit_or, or_shifted}
 use Rattle.key.specs.Bucket.{rotated}
-use Rattle.key.proofs.rotate_left_5.Statement.{statement}
-use Rattle.key.proofs.rotate_left_5.Tie as tie
+use Rattle.key.proofs.rotate_left_5.Goals as goal
 
 -- what is shifted up is a multiple of 32
 shifted : (x : ℕ) → (x * 2 ^ 5) % 2 ^ 64 ≡ (x % 2 ^ 59) * 2 ^ 5
@@ -15,8 +14,5 @@ parts : (x : ℕ) → x < 2 ^ 64 → bit_or ((x * 2 ^ 5) % 2 ^ 64) (x / 2 ^ 59) 
 unfolding rotated
 parts x h = rw (shifted x) (or_shifted (x % 2 ^ 59) 5 (x / 2 ^ 59) (omega arith))
 
-returns : tie.Need-returns
+pub returns : goal.returns
 returns c = parts c.args.x c.ranges.x.fits
-
-pub rotate-left-5-spec : {M : Type 1} → statement M
-rotate-left-5-spec = tie.close (tie.spec returns)
