@@ -1,0 +1,58 @@
+-- SPDX-License-Identifier: Apache-2.0
+-- `eviction_swaps::sift_down` meets its contract: the loop sifts on from the place p in the steps left. Assumes nothing.
+use mathlib.Core.Path.{◌≡◌, refl, sym, ◌∙◌, ap}
+use Prim.Native.Nat.{◌≤◌, ◌<◌}
+use native.Mathlib.Omega.{arith}
+use borrow.Author.Rules.{rules}
+use Rattle.basics.proofs.Tests.{flag}
+use Rattle.eviction.specs.Answers.{try_moved}
+use Rattle.eviction.specs.Sift.{down_to, sift_from}
+use Rattle.eviction_swaps.proofs.Cases.{child_is, down_leaf, down_stays, down_goes, sift_end, sift_stays, sift_stops_other, sift_stops_own, sift_goes}
+use Rattle.eviction_swaps.proofs.sift_down.Goals as goal
+
+pub loop-left-init : goal.loop-left-init
+loop-left-init c = (refl, search rules)
+
+pub returns-then-heap-first : goal.returns-then-heap-first
+returns-then-heap-first c = sym (sift_stays down_to _ _ _ _ c.loop-left-test.true (down_leaf _ _ c.if-heap-first.true)) ∙ c.loop-left.invariant.0
+
+pub returns-then-not-older_than : goal.returns-then-not-older_than
+returns-then-not-older_than c =
+    sym (sift_stays down_to _ _ _ _ c.loop-left-test.true (down_stays _ _ c.if-heap-first.false
+    (child_is _ _ c.right-second.ensures.value c.child-down.ensures.value)
+    (flag c.older_than.ensures c.if-not-older_than.true)))
+    ∙ c.loop-left.invariant.0
+
+pub returns-then-capacity-j : goal.returns-then-capacity-j
+returns-then-capacity-j c =
+    ap try_moved c.refused.ensures
+    ∙ sym (sift_stops_other down_to _ _ _ _ _ c.loop-left-test.true (down_goes _ _ c.if-heap-first.false
+    (child_is _ _ c.right-second.ensures.value c.child-down.ensures.value)
+    (flag c.older_than.ensures c.if-not-older_than.false))
+    c.if-capacity-j.true)
+    ∙ c.loop-left.invariant.0
+
+pub returns-then-capacity-i : goal.returns-then-capacity-i
+returns-then-capacity-i c =
+    ap try_moved c.refused-then-capacity-i.ensures
+    ∙ sym (sift_stops_own down_to _ _ _ _ _ c.loop-left-test.true (down_goes _ _ c.if-heap-first.false
+    (child_is _ _ c.right-second.ensures.value c.child-down.ensures.value)
+    (flag c.older_than.ensures c.if-not-older_than.false)) c.if-capacity-j.false
+    c.if-capacity-i.true)
+    ∙ c.loop-left.invariant.0
+
+pub loop-left-preserved : goal.loop-left-preserved
+loop-left-preserved c = (
+  sym (sift_goes down_to _ _ _ _ _
+      c.loop-left-test.true
+      (down_goes _ _ c.if-heap-first.false
+      (child_is _ _ c.right-second.ensures.value
+      c.child-down.ensures.value)
+      (flag c.older_than.ensures c.if-not-older_than.false))
+      c.if-capacity-j.false c.if-capacity-i.false)
+      ∙ c.loop-left.invariant.0,
+  omega arith,
+)
+
+pub returns : goal.returns
+returns c = sym (sift_end down_to _ _ _ _ c.loop-left-test.false) ∙ c.loop-left.invariant.0

@@ -1,0 +1,14 @@
+-- SPDX-License-Identifier: Apache-2.0
+-- `gate::Gate::end_dirty` meets its contract. Assumes nothing.
+use Rattle.basics.proofs.Tests.{tests}
+use Rattle.gate.specs.Gate.{end_dirty, one_less}
+use borrow.Author.Rules.{rules}
+use Rattle.gate.proofs.Gate.end_dirty.Goals as goal
+
+pub returns-then-self-eq0 : goal.returns-then-self-eq0
+unfolding end_dirty one_less
+returns-then-self-eq0 c = search tests
+
+pub returns : goal.returns
+unfolding end_dirty one_less
+returns c = search tests
