@@ -1,0 +1,24 @@
+-- SPDX-License-Identifier: Apache-2.0
+-- `index_chains::remove` meets its contract: the rest of the search answers what the whole search does. Assumes nothing.
+use Prim.Native.Nat.{◌<◌}
+use mathlib.Core.Path.{◌≡◌, refl}
+use mathlib.Core.Logic.{◌⊎◌, ⊎_elim, inl, inr}
+use native.Mathlib.Omega.{arith}
+use lib.ListN.{get_or}
+use borrow.Author.Tests.{lt-leb, eq-eqb, ne_eqb}
+use borrow.Author.Rules.{rules}
+use Rattle.basics.proofs.Tests.{tests, flag}
+use Rattle.basics.specs.Numbers.{NONE}
+use Rattle.index.specs.Chain.{CHAIN, unlinked, remove_from, remove_index}
+use Rattle.index.proofs.Cases.{has_sizes}
+use Rattle.index_chains.proofs.Cases.{bucket_below, remove_start, remove_step, remove_end}
+use Rattle.index_chains.proofs.remove.Given as goal
+
+abbrev pub invariant-loop-left : goal.invariant-loop-left
+invariant-loop-left l =
+    (l.index ≡ l.initial.index) ×
+    (((l.previous ≡ NONE) ⊎ (l.previous < 256)) ×
+    (remove_from l.left l.capacity l.initial.index l.bucket l.target l.previous l.slot ≡ remove_from CHAIN l.capacity l.initial.index l.bucket l.target NONE (get_or l.initial.index.heads l.bucket 0)))
+
+abbrev pub decreases-loop-left : goal.decreases-loop-left
+decreases-loop-left l = l.left

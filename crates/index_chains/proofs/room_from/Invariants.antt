@@ -1,0 +1,15 @@
+-- SPDX-License-Identifier: Apache-2.0
+-- `index_chains::room_from` meets its contract: the rest of the walk answers what the whole walk does. Assumes nothing.
+use mathlib.Core.Path.{◌≡◌, refl}
+use borrow.Author.Rules.{rules}
+use Rattle.basics.proofs.Tests.{tests}
+use Rattle.index.specs.declared.Index.{Index}
+use Rattle.index.specs.Chain.{CHAIN, room_from}
+use Rattle.index_chains.proofs.Cases.{room_step, room_end}
+use Rattle.index_chains.proofs.room_from.Given as goal
+
+abbrev pub invariant-loop-left : goal.invariant-loop-left
+invariant-loop-left l = (ix : Index) → ix.next ≡ l.next → room_from l.left l.capacity ix l.at ≡ room_from CHAIN l.capacity ix l.slot
+
+abbrev pub decreases-loop-left : goal.decreases-loop-left
+decreases-loop-left l = l.left
