@@ -1,0 +1,21 @@
+-- SPDX-License-Identifier: Apache-2.0
+-- `pins::pin_count` meets its contract: the loop has counted the pins before place i. Assumes nothing.
+use Prim.Native.Nat.{◌+◌, ◌-◌, ◌≤◌}
+use mathlib.Core.Path.{◌≡◌}
+use mathlib.Core.Logic.{⊎_elim}
+use native.Mathlib.Omega.{arith}
+use lib.ListN.{length, drop}
+use borrow.Author.Rules.{rules}
+use borrow.Author.Tests.{eq-eqb, ne_eqb}
+use Rattle.maintenance_restore.specs.Pins.{pin_count}
+use Rattle.maintenance_restore.proofs.Cases.{pins_step, pins_end}
+use Rattle.maintenance_restore.proofs.pins.pin_count.Goals as goal
+
+pub loop-i-init : goal.loop-i-init
+loop-i-init c = omega arith
+
+pub loop-i-preserved : goal.loop-i-preserved
+loop-i-preserved c = let s = pins_step c.args.pins.now c.loop-i.i c.loop-i-test.true in ⊎_elim (λ w. omega (arith, rw (ne_eqb _ _ w.0.taken) at s)) (λ w. omega (arith, rw (eq-eqb _ _ w.0.left) at s)) c.if-pins-i-ne0.branch
+
+pub returns : goal.returns
+returns c = let e = pins_end c.args.pins.now c.loop-i.i c.loop-i-test.false in omega arith

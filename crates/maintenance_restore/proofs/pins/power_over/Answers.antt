@@ -1,0 +1,11 @@
+-- SPDX-License-Identifier: Apache-2.0
+-- `pins::power_over` meets its contract. Assumes nothing.
+use borrow.Author.Rules.{rules}
+use Rattle.maintenance_restore.proofs.Cases.{power_one, power_half}
+use Rattle.maintenance_restore.proofs.pins.power_over.Goals as goal
+
+pub returns-in_default : goal.returns-in_default
+returns-in_default c = power_one _ c.requires c.bucket_count-counted.ensures c.in_default.is
+
+pub returns : goal.returns
+returns c = power_half _ c.requires c.bucket_count-counted.ensures c.in-Of.is
