@@ -7,7 +7,7 @@
 #![tactic(auto)]
 
 ghost use Rattle.std.specs.Prelude.{◌≡◌};
-ghost use Rattle.gate.specs.Gate.{at_first, admits as admitsRule, turned_of, begin_pause, end_pause, begin_dirty, end_dirty};
+ghost use Rattle.gate.specs.Gate.{at_first, admits as admits_rule, turned_of, begin_pause, end_pause, begin_dirty, end_dirty};
 
 use basics::Done;
 
@@ -107,7 +107,7 @@ impl Gate {
 
     // Whether an access may load.
     pub fn admits(self, allow_load: bool) -> bool
-        ensures { result ≡ admitsRule self allow_load }
+        ensures { result ≡ admits_rule self allow_load }
     {
         if !allow_load {
             return false;

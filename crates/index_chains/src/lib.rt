@@ -10,7 +10,7 @@ ghost use Rattle.std.specs.Prelude.{◌≡◌};
 ghost use Rattle.index.specs.declared.Index.{Index};
 ghost use Rattle.index.specs.Answers.{moved_of, room_answer};
 ghost use Rattle.index.specs.Chain.{CHAIN, room_from, can_insert, insert_index, remove_index};
-ghost use Rattle.index.specs.Free.{vacate as vacateIndex};
+ghost use Rattle.index.specs.Free.{vacate as vacate_index};
 
 use basics::{Done, NO_SLOT, NONE, STOP};
 use index::{Index, Moved, Room};
@@ -132,7 +132,7 @@ pub fn remove(mut index: Index, capacity: usize, key: CacheKey, target: usize) -
 
 // A slot's key leaves its chain, and the slot goes onto the stack.
 pub fn vacate(capacity: usize, index: Index, key: CacheKey, slot: usize) -> Moved
-    ensures { result ≡ moved_of index (vacateIndex capacity index key slot) }
+    ensures { result ≡ moved_of index (vacate_index capacity index key slot) }
 {
     let cut = remove(index, capacity, key, slot);
     let answer = cut.answer;

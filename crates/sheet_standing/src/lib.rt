@@ -4,7 +4,7 @@
 #![tactic(auto)]
 
 ghost use Rattle.std.specs.Prelude.{◌≡◌};
-ghost use Rattle.sheet_standing.specs.Standing.{empty_place, start as startRule, afresh as afreshRule};
+ghost use Rattle.sheet_standing.specs.Standing.{empty_place, start as start_rule, afresh as afresh_rule};
 
 use key::CacheKey;
 use state::{LoadToken, State};
@@ -48,7 +48,7 @@ fn empty_place() -> Place
 
 // A new table, with no token and no pin.
 pub fn afresh(t: State) -> Standing
-    ensures { result ≡ afreshRule t }
+    ensures { result ≡ afresh_rule t }
 {
     let empty = empty_place();
     Standing {
@@ -61,7 +61,7 @@ pub fn afresh(t: State) -> Standing
 
 // Before the first record.
 pub fn start() -> Standing
-    ensures { result ≡ startRule }
+    ensures { result ≡ start_rule }
 {
     let refused = State::try_new(0);
     let none = refused.state;

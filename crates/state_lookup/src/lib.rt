@@ -7,7 +7,7 @@
 
 ghost use Rattle.std.specs.Prelude.{◌≡◌};
 ghost use Rattle.state.specs.Answers.{looked_after};
-ghost use Rattle.state.specs.Lookup.{lookup as lookupRule};
+ghost use Rattle.state.specs.Lookup.{lookup as lookup_rule};
 
 use basics::Done;
 use key::CacheKey;
@@ -15,7 +15,7 @@ use state::{Found, Looked, Slot, State};
 
 // The walk along the chain stands here: a function of its own would take the table by value, which copies it.
 pub fn lookup(mut t: State, key: CacheKey) -> Looked
-    ensures { looked_after result ≡ lookupRule t key }
+    ensures { looked_after result ≡ lookup_rule t key }
 {
     if !state::sound(
         t.capacity,

@@ -20,13 +20,13 @@ pub returns-in-Refused : goal.returns-in-Refused
 returns-in-Refused c = let q = rw (made_fresh c.try_new-made.result _ c.loop-left.invariant.1.0 c.loop-left.invariant.1.1 c.try_new-made.ensures) at c.restore_pinned-restored.ensures in let p = restored_told _ q c.in-Refused.is in q ∙ p ∙ sym (candidate_stops _ _ _ _ _ c.loop-left-test.true p) ∙ c.loop-left.invariant.0
 
 pub returns-then-not-shrinking : goal.returns-then-not-shrinking
-returns-then-not-shrinking c = let q = rw (made_fresh c.try_new-made.result _ c.loop-left.invariant.1.0 c.loop-left.invariant.1.1 c.try_new-made.ensures) at c.restore_pinned-restored.ensures in let p = restored_told _ q c.in-No.is in q ∙ p ∙ sym (candidate_grows _ _ _ _ _ c.loop-left-test.true p (not-true _ c.if-not-shrinking.true)) ∙ c.loop-left.invariant.0
+returns-then-not-shrinking c = let q = rw (made_fresh c.try_new-made.result _ c.loop-left.invariant.1.0 c.loop-left.invariant.1.1 c.try_new-made.ensures) at c.restore_pinned-restored.ensures in let p = restored_told _ q c.in-No.is in q ∙ p ∙ sym (candidate_grows _ _ _ _ _ c.loop-left-test.true p c.if-not-shrinking.true) ∙ c.loop-left.invariant.0
 
 pub returns-then-old-size : goal.returns-then-old-size
-returns-then-old-size c = let q = rw (made_fresh c.try_new-made.result _ c.loop-left.invariant.1.0 c.loop-left.invariant.1.1 c.try_new-made.ensures) at c.restore_pinned-restored.ensures in let p = restored_told _ q c.in-No.is in q ∙ p ∙ sym (candidate_half _ _ _ _ _ c.loop-left-test.true p (not-false _ c.if-not-shrinking.false) c.if-old-size.true) ∙ c.loop-left.invariant.0
+returns-then-old-size c = let q = rw (made_fresh c.try_new-made.result _ c.loop-left.invariant.1.0 c.loop-left.invariant.1.1 c.try_new-made.ensures) at c.restore_pinned-restored.ensures in let p = restored_told _ q c.in-No.is in q ∙ p ∙ sym (candidate_half _ _ _ _ _ c.loop-left-test.true p c.if-not-shrinking.false c.if-old-size.true) ∙ c.loop-left.invariant.0
 
 pub loop-left-preserved : goal.loop-left-preserved
-loop-left-preserved c = let q = rw (made_fresh c.try_new-made.result _ c.loop-left.invariant.1.0 c.loop-left.invariant.1.1 c.try_new-made.ensures) at c.restore_pinned-restored.ensures in let p = restored_told _ q c.in-No.is in (sym (candidate_twice _ _ _ _ _ c.loop-left-test.true p (not-false _ c.if-not-shrinking.false) c.if-old-size.false) ∙ c.loop-left.invariant.0, omega arith)
+loop-left-preserved c = let q = rw (made_fresh c.try_new-made.result _ c.loop-left.invariant.1.0 c.loop-left.invariant.1.1 c.try_new-made.ensures) at c.restore_pinned-restored.ensures in let p = restored_told _ q c.in-No.is in (sym (candidate_twice _ _ _ _ _ c.loop-left-test.true p c.if-not-shrinking.false c.if-old-size.false) ∙ c.loop-left.invariant.0, omega arith)
 
 pub returns : goal.returns
 returns c = rw (← c.loop-left.invariant.0, candidate_end _ _ _ _ _ c.loop-left-test.false)
