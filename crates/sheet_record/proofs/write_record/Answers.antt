@@ -15,4 +15,6 @@ unfolding read_record in_range good
 returns-then-call-gt4294967295 c = rw (far_number c.args.call c.if-call-gt4294967295.true)
 
 pub returns : goal.returns
-returns c = reads_back c.args.call c.bit.result c.low_4-n.result c.low_4-f.result c.low_4-g.result c.low_4-i.result c.low_4-j.result (omega arith) (omega arith) c.bit.ensures (omega arith) (omega arith) (omega arith)
+returns c =
+    reads_back c.args.call c.bit.result c.low_4-n.result c.low_4-f.result c.low_4-g.result c.low_4-i.result c.low_4-j.result
+    (omega arith) (omega arith) c.bit.ensures (omega arith) (omega arith) (omega arith)
