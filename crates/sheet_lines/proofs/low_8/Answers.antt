@@ -2,7 +2,6 @@
 -- `sheet_lines::low_8` meets its contract. Assumes nothing.
 use native.Mathlib.Omega.{arith}
 use Rattle.sheet_lines.proofs.Bytes.{low_8_lem}
-use borrow.Author.Rules.{rules}
 use Rattle.sheet_lines.proofs.low_8.Goals as goal
 
 pub returns : goal.returns

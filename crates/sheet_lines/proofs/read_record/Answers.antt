@@ -3,7 +3,6 @@
 use native.Mathlib.Omega.{arith}
 use Rattle.basics.proofs.Tests.{tests}
 use Rattle.sheet_lines.specs.Record.{read_record, in_range, fields_of}
-use borrow.Author.Rules.{rules}
 use Rattle.sheet_lines.proofs.read_record.Goals as goal
 
 pub returns-then-bytes-lt-RECORD : goal.returns-then-bytes-lt-RECORD
