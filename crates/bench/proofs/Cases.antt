@@ -50,11 +50,11 @@ unfolding placed
 put tokens place {left = true} e = rw e
 put tokens place {left = false} e = rw e
 
-pub unput : (tokens : List LoadToken) (place : ℕ) (a : Access) → OneOf (0 ∷ 1 ∷ 3 ∷ 4 ∷ []) (tag_of the-access.the_type a) → placed tokens place (access_answer a) ≡ tokens
+pub unput : (tokens : List LoadToken) (place : ℕ) (a : Access) → ((k : LoadToken) (left : Bool) → a ≡ Access.Reserved k left → ⊥) → placed tokens place (access_answer a) ≡ tokens
 unfolding placed
 unput tokens place (Access.Hit slot) h = refl
 unput tokens place Access.LoadInProgress h = refl
-unput tokens place (Access.Reserved k left) h = absurd (⊎_elim (λ e. omega arith) (⊎_elim (λ e. omega arith) (⊎_elim (λ e. omega arith) (λ e. omega arith))) h)
+unput tokens place (Access.Reserved k left) h = absurd (h k left refl)
 unput tokens place Access.CapacityBusy h = refl
 unput tokens place (Access.Refused n) h = refl
 

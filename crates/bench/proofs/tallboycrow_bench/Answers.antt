@@ -8,6 +8,7 @@ use Rattle.bench.specs.Run.{running, start, run_from, total, checksum}
 use Rattle.bench.proofs.Cases.{run_end, run_step, fits_on, put, unput, starts, total_told, new_goes, access_goes, publish_goes, abort_goes, lookup_goes}
 use Rattle.bench.proofs.Cases.{resize_goes, through_goes, reclaim_goes}
 use Rattle.bench.proofs.tallboycrow_bench.Goals as goal
+use Rattle.bench.proofs.tallboycrow_bench.Goals.{in-Reserved, in_default, in-Reserved-answer, in_default-answer}
 
 pub loop-left-init : goal.loop-left-init
 loop-left-init c = (search rules, ap (run_from _ _ 0) (starts c.try_new-started.ensures c.no_token-none.ensures))
@@ -34,12 +35,12 @@ loop-left-preserved-then-code-eq2 c =
     let loop-test = c.loop-left-test in
     let access = c.access-held in
     let match = c.match-answer in
-    let e : match.answer ≡ access.result.answer = ⊎_elim (λ w. w.4 ∙ sym w.1.given.1) (λ w. w.2) match.branch in (
+    let e : match.answer ≡ access.result.answer = elim match.branch [ in-Reserved w ↦ w.answer-is ∙ sym w.in-Reserved.is | in_default w ↦ w.answer-is ] in (
       fits_on _ _ _ inv.0 loop-test.true,
       sym (run_step _ _ _ _ loop-test.true
           (access_goes _ _ _ _ _ _ c.if-code-eq1.false c.if-code-eq2.true c.lent-count.ensures
           access.ensures
-          (⊎_elim (λ w. w.3 ∙ sym (put _ _ w.1.given.1)) (λ w. w.1 ∙ sym (unput _ _ access.result.answer w.0.keys2)) match.branch)
+          (elim match.branch [ in-Reserved w ↦ w.tokens-is ∙ sym (put _ _ w.in-Reserved.is) | in_default w ↦ w.tokens-is ∙ sym (unput _ _ access.result.answer w.in_default.not-Reserved) ])
           (c.of_access.ensures ∙ ap (λ a. access_number (access_answer a)) e) c.add-sum-then-code-eq2.ensures))
           ∙ inv.1,
     )
@@ -113,13 +114,13 @@ loop-left-preserved-then-code-eq10 c =
     let loop-test = c.loop-left-test in
     let access = c.access-held-then-code-eq10 in
     let match = c.match-answer-2 in
-    let e : match.answer ≡ access.result.answer = ⊎_elim (λ w. w.4 ∙ sym w.1.given.1) (λ w. w.2) match.branch in (
+    let e : match.answer ≡ access.result.answer = elim match.branch [ in-Reserved-answer w ↦ w.answer-is ∙ sym w.in-Reserved-answer.is | in_default-answer w ↦ w.answer-is ] in (
       fits_on _ _ _ inv.0 loop-test.true,
       sym (run_step _ _ _ _ loop-test.true
           (through_goes _ _ _ _ _ _ c.if-code-eq1.false c.if-code-eq2.false
           c.if-code-eq3.false c.if-code-eq4.false c.if-code-eq5.false c.lent-count.ensures
           c.if-code-eq8.false c.if-code-eq10.true c.new-gate.ensures access.ensures
-          (⊎_elim (λ w. w.3 ∙ sym (put _ _ w.1.given.1)) (λ w. w.1 ∙ sym (unput _ _ access.result.answer w.0.keys2)) match.branch)
+          (elim match.branch [ in-Reserved-answer w ↦ w.tokens-is ∙ sym (put _ _ w.in-Reserved-answer.is) | in_default-answer w ↦ w.tokens-is ∙ sym (unput _ _ access.result.answer w.in_default-answer.not-Reserved) ])
           (c.of_access-then-code-eq10.ensures ∙ ap (λ a. access_number (access_answer a)) e) c.add-sum-then-code-eq10.ensures))
           ∙ inv.1,
     )
