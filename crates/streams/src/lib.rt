@@ -6,7 +6,7 @@
 ghost use Rattle.std.specs.Prelude.{◌≡◌, true, ◌≤◌, length};
 ghost use Rattle.io.specs.Counts.{IsPrefixLen};
 
-use libc::{STDIN_FILENO, STDOUT_FILENO};
+use std::io::Read;
 
 // How many bytes of a block were read, and whether a read failed.
 #[derive(Clone, Copy)]
@@ -16,31 +16,32 @@ pub struct Got {
 }
 
 // One read into a block behind its first bytes: how many it has then.
-fn read_more(block: &mut [u8], done: usize) -> Got
+fn read_more<R: Eprint, I: Read>(rt: &R, input: &mut I, block: &mut [u8], done: usize) -> Got
     requires { done ≤ length block.old }
     ensures count_in_bounds { result.count ≤ length block.new }
     ensures block_len_unchanged { length block.new ≡ length block.old }
 {
-    let got = libc::read(STDIN_FILENO, &mut block[done..]);
-    if got < 0 {
-        os::fail(b"standard input");
-        return Got {
-            count: done,
-            failed: true,
-        };
-    }
-    let more = io::count(got, &block[done..]);
-    Got {
-        count: done + more,
-        failed: false,
+    match input.read(&mut block[done..]) {
+        Ok(more) => Got {
+            count: done + more,
+            failed: false,
+        },
+        Err(error) => {
+            let _ = eprintln!(rt; "standard input: {error}");
+            Got {
+                count: done,
+                failed: true,
+            }
+        }
     }
 }
 
 // Reads until the block is full, the input ends or a read fails. Unlike `io::read_full` it tells the end from a failure.
-pub fn read_block(block: &mut [u8]) -> Got
+pub fn read_block<R: Input + Eprint>(rt: &R, block: &mut [u8]) -> Got
     ensures prefix_len { IsPrefixLen result.count block.new }
     ensures block_len_unchanged { length block.new ≡ length block.old }
 {
+    let mut input = rt.reader();
     let mut so_far = Got {
         count: 0,
         failed: false,
@@ -49,7 +50,7 @@ pub fn read_block(block: &mut [u8]) -> Got
     let mut left = block.len();
     while 0 < left {
         left -= 1;
-        let next = read_more(block, so_far.count);
+        let next = read_more(rt, &mut input, block, so_far.count);
         if next.failed {
             return next;
         }
@@ -65,15 +66,17 @@ pub fn read_block(block: &mut [u8]) -> Got
 }
 
 // Writes all of a text. The answer is whether it was written; nothing fails where there is nothing to write.
-pub fn write_out(text: &[u8]) -> bool
+pub fn write_out<R: Print + Eprint>(rt: &R, text: &[u8]) -> bool
     ensures { length text.now ≡ 0 → result ≡ true }
 {
     if text.len() == 0 {
         return true;
     }
-    let written = io::write_all(STDOUT_FILENO, text);
-    if !written {
-        os::fail(b"standard output");
+    match rt.write_all(text) {
+        Ok(()) => true,
+        Err(error) => {
+            let _ = eprintln!(rt; "standard output: {error}");
+            false
+        }
     }
-    written
 }
