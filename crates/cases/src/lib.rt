@@ -552,7 +552,7 @@ pub fn put_state(out: &mut [u8], at: usize, t: State) -> usize
 }
 
 // The bytes that wait from a place on, with more read behind them, at the front, where a whole case may not be among them.
-pub fn wait(bytes: &mut [u8], from: usize, end: usize) -> Waiting
+pub fn wait<R: Input + Eprint>(rt: &R, bytes: &mut [u8], from: usize, end: usize) -> Waiting
     ensures at_le_have { (result.at ≤ result.have) × (result.have ≤ length bytes.old) }
     ensures bytes_len_unchanged { length bytes.new ≡ length bytes.old }
 {
@@ -571,7 +571,7 @@ pub fn wait(bytes: &mut [u8], from: usize, end: usize) -> Waiting
         at += 1;
         to += 1;
     }
-    let got = streams::read_block(&mut bytes[to..]);
+    let got = streams::read_block(rt, &mut bytes[to..]);
     Waiting {
         at: 0,
         have: to + got.count,

@@ -284,7 +284,7 @@ fn take_case(out: &mut [u8], at: usize, number: u64, t: State, gate: Gate, bytes
 }
 
 // All cases. Before the first stand the table of a refused new and the gate as at first.
-fn run_all(bytes: &mut [u8], out: &mut [u8]) {
+fn run_all<R: Input + Print + Eprint>(rt: &R, bytes: &mut [u8], out: &mut [u8]) {
     let refused = State::try_new(0);
     let mut t = refused.state;
     let mut gate = Gate::new();
@@ -295,19 +295,19 @@ fn run_all(bytes: &mut [u8], out: &mut [u8]) {
     let mut left: u64 = basics::MAX;
     while 0 < left {
         left -= 1;
-        let waiting = cases::wait(bytes, from, end);
+        let waiting = cases::wait(rt, bytes, from, end);
         if waiting.failed {
-            picture_numbers::flush(out, written, 0);
+            picture_numbers::flush(rt, out, written, 0);
             return;
         }
         let at = waiting.at;
         let have = waiting.have;
         let taken = take_case(out, written, number, t, gate, &bytes[at..have]);
         if taken.used == 0 {
-            picture_numbers::flush(out, taken.written, 0);
+            picture_numbers::flush(rt, out, taken.written, 0);
             return;
         }
-        let waits = picture_numbers::flush(out, taken.written, cases::FULL);
+        let waits = picture_numbers::flush(rt, out, taken.written, cases::FULL);
         if waits.failed {
             return;
         }
@@ -320,8 +320,8 @@ fn run_all(bytes: &mut [u8], out: &mut [u8]) {
     }
 }
 
-fn main() {
+fn main(rt: HostRuntime) {
     let mut bytes: [u8; 262144] = [0; 262144];
     let mut out: [u8; 524288] = [0; 524288];
-    run_all(&mut bytes, &mut out);
+    run_all(&rt, &mut bytes, &mut out);
 }

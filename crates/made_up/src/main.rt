@@ -123,7 +123,7 @@ fn take_case(out: &mut [u8], at: usize, number: u64, bytes: &[u8]) -> Taken
 }
 
 // All cases.
-fn run_all(bytes: &mut [u8], out: &mut [u8]) {
+fn run_all<R: Input + Print + Eprint>(rt: &R, bytes: &mut [u8], out: &mut [u8]) {
     let mut written: usize = 0;
     let mut number: u64 = 0;
     let mut from: usize = 0;
@@ -131,19 +131,19 @@ fn run_all(bytes: &mut [u8], out: &mut [u8]) {
     let mut left: u64 = basics::MAX;
     while 0 < left {
         left -= 1;
-        let waiting = cases::wait(bytes, from, end);
+        let waiting = cases::wait(rt, bytes, from, end);
         if waiting.failed {
-            picture_numbers::flush(out, written, 0);
+            picture_numbers::flush(rt, out, written, 0);
             return;
         }
         let at = waiting.at;
         let have = waiting.have;
         let taken = take_case(out, written, number, &bytes[at..have]);
         if taken.used == 0 {
-            picture_numbers::flush(out, taken.written, 0);
+            picture_numbers::flush(rt, out, taken.written, 0);
             return;
         }
-        let waits = picture_numbers::flush(out, taken.written, cases::FULL);
+        let waits = picture_numbers::flush(rt, out, taken.written, cases::FULL);
         if waits.failed {
             return;
         }
@@ -154,8 +154,8 @@ fn run_all(bytes: &mut [u8], out: &mut [u8]) {
     }
 }
 
-fn main() {
+fn main(rt: HostRuntime) {
     let mut bytes: [u8; 262144] = [0; 262144];
     let mut out: [u8; 524288] = [0; 524288];
-    run_all(&mut bytes, &mut out);
+    run_all(&rt, &mut bytes, &mut out);
 }

@@ -34,7 +34,7 @@ pub fn least(length: usize, places: usize) -> usize
 }
 
 // The bytes before a place go to standard output where they are more than `most`.
-pub fn flush(out: &[u8], at: usize, most: usize) -> Waits
+pub fn flush<R: Print + Eprint>(rt: &R, out: &[u8], at: usize, most: usize) -> Waits
     ensures count_value { result.count ≡ (if leb (min at (length out.now)) most then min at (length out.now) else 0) }
     ensures failed_value { min at (length out.now) ≤ most → result.failed ≡ false }
 {
@@ -45,7 +45,7 @@ pub fn flush(out: &[u8], at: usize, most: usize) -> Waits
             failed: false,
         };
     }
-    let written = streams::write_out(&out[..end]);
+    let written = streams::write_out(rt, &out[..end]);
     Waits {
         count: 0,
         failed: !written,

@@ -91,7 +91,13 @@ fn put_record(out: &mut [u8], at: usize, number: u64, said: Said, s: Standing) -
 }
 
 // The records of a block.
-fn run(standing: Standing, first: u64, bytes: &[u8], out: &mut [u8]) -> Ran
+fn run<R: Print + Eprint>(
+    rt: &R,
+    standing: Standing,
+    first: u64,
+    bytes: &[u8],
+    out: &mut [u8],
+) -> Ran
     ensures { length out.new ≡ length out.old }
 {
     let mut s = standing;
@@ -104,14 +110,14 @@ fn run(standing: Standing, first: u64, bytes: &[u8], out: &mut [u8]) -> Ran
         s = stepped.standing;
         written = put_record(out, written, number, said, s);
         if sheet_lines::is_bad(said) {
-            picture_numbers::flush(out, written, 0);
+            picture_numbers::flush(rt, out, written, 0);
             return Ran {
                 standing: s,
                 number: number,
                 ended: true,
             };
         }
-        let waits = picture_numbers::flush(out, written, FULL);
+        let waits = picture_numbers::flush(rt, out, written, FULL);
         if waits.failed {
             return Ran {
                 standing: s,
@@ -123,7 +129,7 @@ fn run(standing: Standing, first: u64, bytes: &[u8], out: &mut [u8]) -> Ran
         number = basics::one_more(number);
         at += picture_numbers::least(bytes.len() - at, sheet_lines::RECORD);
     }
-    let last = picture_numbers::flush(out, written, 0);
+    let last = picture_numbers::flush(rt, out, written, 0);
     Ran {
         standing: s,
         number: number,
@@ -132,18 +138,18 @@ fn run(standing: Standing, first: u64, bytes: &[u8], out: &mut [u8]) -> Ran
 }
 
 // The records of all blocks, each of as many bytes as there is room for.
-fn run_all(bytes: &mut [u8], out: &mut [u8]) {
+fn run_all<R: Input + Print + Eprint>(rt: &R, bytes: &mut [u8], out: &mut [u8]) {
     let mut standing = sheet_standing::start();
     let mut number: u64 = 0;
     let mut blocks: u64 = basics::MAX;
     while 0 < blocks {
         blocks -= 1;
-        let got = streams::read_block(bytes);
+        let got = streams::read_block(rt, bytes);
         if got.failed {
             return;
         }
         let count = got.count;
-        let ran = run(standing, number, &bytes[..count], out);
+        let ran = run(rt, standing, number, &bytes[..count], out);
         if ran.ended {
             return;
         }
@@ -155,8 +161,8 @@ fn run_all(bytes: &mut [u8], out: &mut [u8]) {
     }
 }
 
-fn main() {
+fn main(rt: HostRuntime) {
     let mut bytes: [u8; 49152] = [0; 49152];
     let mut out: [u8; 262144] = [0; 262144];
-    run_all(&mut bytes, &mut out);
+    run_all(&rt, &mut bytes, &mut out);
 }
