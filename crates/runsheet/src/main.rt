@@ -2,7 +2,8 @@
 // Runs a sheet: records from standard input, lines to standard output. A read or a write that fails is told on standard error and ends it.
 #![tactic(auto)]
 
-use libc::STDERR_FILENO;
+use std::env::FillError;
+use std::rt::Env;
 
 // A block of input: 2048 records of 24 bytes.
 const BLOCK: usize = 49152;
@@ -10,11 +11,20 @@ const BLOCK: usize = 49152;
 // Room for a line of at most 96 bytes for each of them.
 const ROOM: usize = 196608;
 
+// Whether an argument stands behind the program's name. Its text is not needed.
+fn has_argument<R: Env>(rt: &R) -> bool {
+    let mut text: [u8; 1] = [0; 1];
+    match rt.arg(1, &mut text) {
+        Err(FillError::NotPresent) => false,
+        _ => true,
+    }
+}
+
 // `blocks` of crate sheet is the theorem that these blocks print what the whole input prints. A short count is the end of the
 // input, so nothing of a block is kept but what stands.
-fn main() {
-    if 1 < os::arg_count() {
-        io::write_all(STDERR_FILENO, b"usage: runsheet < SHEET > LINES\n");
+fn main(rt: HostRuntime) {
+    if has_argument(&rt) {
+        let _ = eprintln!(rt; "usage: runsheet < SHEET > LINES");
         return;
     }
     let mut bytes: [u8; BLOCK] = [0; BLOCK];
@@ -24,14 +34,14 @@ fn main() {
     let mut blocks: u64 = basics::MAX;
     while 0 < blocks {
         blocks -= 1;
-        let got = streams::read_block(&mut bytes);
+        let got = streams::read_block(&rt, &mut bytes);
         if got.failed {
             return;
         }
         let count = got.count;
         let ran = sheet::run(standing, number, &bytes[..count], &mut out);
         let written = ran.written;
-        let wrote = streams::write_out(&out[..written]);
+        let wrote = streams::write_out(&rt, &out[..written]);
         if !wrote {
             return;
         }

@@ -9,10 +9,11 @@ ghost use Rattle.std.specs.Prelude.{◌≡◌, ◌+◌, ◌/◌, ◌≤◌, ◌+
 ghost use Rattle.sheet_show.specs.Form.{listed_text, text_of};
 
 use check::same;
-use libc::STDERR_FILENO;
 use sheet_lines::Read;
 use sheet_show::Text;
 use sheet_text::{Fault, Parsed};
+use std::env::FillError;
+use std::rt::Env;
 
 // What can be wrong with a line, besides what the line says.
 const LONG: u8 = 8;
@@ -229,57 +230,57 @@ fn text_of(bytes: &[u8], out: &mut [u8]) -> Listed
 }
 
 // To standard error, never into what is written.
-fn say(text: &[u8]) {
-    io::write_all(STDERR_FILENO, text);
+fn say<E: Print>(err: &E, text: &[u8]) {
+    let _ = err.write_all(text);
 }
 
-fn say_number(number: u64) {
-    io::print_decimal(STDERR_FILENO, number);
+fn say_number<E: Print>(err: &E, number: u64) {
+    let _ = err.print(number);
 }
 
-fn say_why(why: u8) {
+fn say_why<E: Print>(err: &E, why: u8) {
     if why == sheet_text::NO_CALL {
-        say(b": no such call");
+        say(err, b": no such call");
     } else if why == sheet_text::NO_FIELD {
-        say(b": no such field");
+        say(err, b": no such field");
     } else if why == sheet_text::NO_NUMBER {
-        say(b": not a number");
+        say(err, b": not a number");
     } else if why == sheet_text::RANGE {
-        say(b": number out of range");
+        say(err, b": number out of range");
     } else if why == sheet_text::UNUSED {
-        say(b": not used by this call");
+        say(err, b": not used by this call");
     } else if why == sheet_text::TWICE {
-        say(b": given twice");
+        say(err, b": given twice");
     } else if why == sheet_text::MISSING {
-        say(b": number missing");
+        say(err, b": number missing");
     } else if why == LONG {
-        say(b": longer than 256 bytes");
+        say(err, b": longer than 256 bytes");
     } else {
-        say(b": no room for its record");
+        say(err, b": no room for its record");
     }
 }
 
 // The word that is wrong; nothing where there is none.
-fn say_word(line: &[u8], from: usize, to: usize) {
+fn say_word<E: Print>(err: &E, line: &[u8], from: usize, to: usize) {
     if to <= from {
         return;
     }
     if line.len() < to {
         return;
     }
-    say(b": \"");
-    say(&line[from..to]);
-    say(b"\"");
+    say(err, b": \"");
+    say(err, &line[from..to]);
+    say(err, b"\"");
 }
 
 // The line with its number from 1, and what is wrong with it.
-fn say_wrong(reading: Reading, fault: Fault) {
+fn say_wrong<E: Print>(err: &E, reading: Reading, fault: Fault) {
     let line = reading.line;
-    say(b"line ");
-    say_number(basics::one_more(reading.before));
-    say_why(fault.why);
-    say_word(&line, fault.from, fault.to);
-    say(b"\n");
+    say(err, b"line ");
+    say_number(err, basics::one_more(reading.before));
+    say_why(err, fault.why);
+    say_word(err, &line, fault.from, fault.to);
+    say(err, b"\n");
 }
 
 // What a block of text came to: the line that has begun, and whether another block follows.
@@ -297,20 +298,25 @@ struct Numbered {
 }
 
 // Some text as records, or what is wrong with it. It holds no more records than bytes.
-fn write_some(reading: Reading, text: &[u8]) -> Block {
+fn write_some<R: Print + Eprint, E: Print>(
+    rt: &R,
+    err: &E,
+    reading: Reading,
+    text: &[u8],
+) -> Block {
     let mut out: [u8; 98304] = [0; 98304];
     let turned = records_of(reading, text, &mut out);
     let written = turned.written;
     let begun = turned.reading;
     let fault = turned.fault;
-    if !streams::write_out(&out[..written]) {
+    if !streams::write_out(rt, &out[..written]) {
         return Block {
             reading: begun,
             next: false,
         };
     }
     if 0 < fault.why {
-        say_wrong(begun, fault);
+        say_wrong(err, begun, fault);
         return Block {
             reading: begun,
             next: false,
@@ -323,9 +329,9 @@ fn write_some(reading: Reading, text: &[u8]) -> Block {
 }
 
 // A block of text. The end of the input ends its last line; a failed read ends the run.
-fn text_block(reading: Reading) -> Block {
-    let mut bytes = io::buffer();
-    let got = streams::read_block(&mut bytes);
+fn text_block<R: Input + Print + Eprint, E: Print>(rt: &R, err: &E, reading: Reading) -> Block {
+    let mut bytes: [u8; 4096] = [0; 4096];
+    let got = streams::read_block(rt, &mut bytes);
     let count = got.count;
     if got.failed {
         return Block {
@@ -334,16 +340,16 @@ fn text_block(reading: Reading) -> Block {
         };
     }
     if count == 0 {
-        write_some(reading, b"\n");
+        write_some(rt, err, reading, b"\n");
         return Block {
             reading: reading,
             next: false,
         };
     }
-    write_some(reading, &bytes[..count])
+    write_some(rt, err, reading, &bytes[..count])
 }
 
-fn write_records() {
+fn write_records<R: Input + Print + Eprint, E: Print>(rt: &R, err: &E) {
     let mut reading = Reading {
         line: [0; 256],
         len: 0,
@@ -352,7 +358,7 @@ fn write_records() {
     let mut blocks: u64 = basics::MAX;
     while 0 < blocks {
         blocks -= 1;
-        let block = text_block(reading);
+        let block = text_block(rt, err, reading);
         if !block.next {
             return;
         }
@@ -361,10 +367,10 @@ fn write_records() {
 }
 
 // A block of 128 records has room for the text of each.
-fn record_block(number: u64) -> Numbered {
+fn record_block<R: Input + Print + Eprint, E: Print>(rt: &R, err: &E, number: u64) -> Numbered {
     let mut bytes: [u8; 3072] = [0; 3072];
     let mut out: [u8; 25600] = [0; 25600];
-    let got = streams::read_block(&mut bytes);
+    let got = streams::read_block(rt, &mut bytes);
     let count = got.count;
     let ended = Numbered {
         number: number,
@@ -375,13 +381,16 @@ fn record_block(number: u64) -> Numbered {
     }
     let listed = text_of(&bytes[..count], &mut out);
     let written = listed.written;
-    if !streams::write_out(&out[..written]) {
+    if !streams::write_out(rt, &out[..written]) {
         return ended;
     }
     if listed.bad {
-        say(b"record ");
-        say_number(std::num::wrapping_add_u64(number, listed.records as u64));
-        say(b": bad\n");
+        say(err, b"record ");
+        say_number(
+            err,
+            std::num::wrapping_add_u64(number, listed.records as u64),
+        );
+        say(err, b": bad\n");
         return ended;
     }
     Numbered {
@@ -390,12 +399,12 @@ fn record_block(number: u64) -> Numbered {
     }
 }
 
-fn write_text() {
+fn write_text<R: Input + Print + Eprint, E: Print>(rt: &R, err: &E) {
     let mut number: u64 = 0;
     let mut blocks: u64 = basics::MAX;
     while 0 < blocks {
         blocks -= 1;
-        let block = record_block(number);
+        let block = record_block(rt, err, number);
         if !block.next {
             return;
         }
@@ -403,24 +412,52 @@ fn write_text() {
     }
 }
 
-fn usage() {
-    say(b"usage: sheetform records < TEXT > SHEET, or sheetform text < SHEET > TEXT\n");
+fn usage<E: Print>(err: &E) {
+    say(
+        err,
+        b"usage: sheetform records < TEXT > SHEET, or sheetform text < SHEET > TEXT\n",
+    );
 }
 
-fn main() {
+// Whether an argument stands at a place, the program's name at 0.
+fn has_argument<R: Env>(rt: &R, place: usize) -> bool {
+    let mut text: [u8; 1] = [0; 1];
+    match rt.arg(place, &mut text) {
+        Err(FillError::NotPresent) => false,
+        _ => true,
+    }
+}
+
+// The first argument at the front of a word, and its length, 0 where it is longer.
+fn first_argument<R: Env>(rt: &R, word: &mut [u8]) -> usize
+    ensures within { result ≤ length word.new }
+    ensures word_len_unchanged { length word.new ≡ length word.old }
+{
+    match rt.arg(1, word) {
+        Ok(len) => len,
+        Err(_) => 0,
+    }
+}
+
+fn main(rt: HostRuntime) {
+    let err = rt.stderr();
     let mut word: [u8; 8] = [0; 8];
-    if os::arg_count() != 2 {
-        usage();
+    if !has_argument(&rt, 1) {
+        usage(&err);
         return;
     }
-    let len = os::arg(1, &mut word);
+    if has_argument(&rt, 2) {
+        usage(&err);
+        return;
+    }
+    let len = first_argument(&rt, &mut word);
     if same(&word[..len], b"records") {
-        write_records();
+        write_records(&rt, &err);
         return;
     }
     if same(&word[..len], b"text") {
-        write_text();
+        write_text(&rt, &err);
         return;
     }
-    usage();
+    usage(&err);
 }
