@@ -3,7 +3,6 @@
 use Rattle.std.specs.Prelude.{ℕ, zero, suc, ◌+◌, ◌*◌, min, not, List, [], ◌∷◌, eqb, get_or}
 use Rattle.basics.specs.Numbers.{NONE}
 use Rattle.key.specs.declared.CacheKey.{CacheKey}
-use Rattle.state.specs.declared.LoadToken.{LoadToken}
 use Rattle.cases.specs.declared.Call.{Call}
 
 -- past the end of any bytes that are read
