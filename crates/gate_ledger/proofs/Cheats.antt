@@ -1,6 +1,6 @@
 -- SPDX-License-Identifier: Apache-2.0
 -- The claim fails of every machine of specs/Cheats.antt, each at a list of calls. Assumes nothing.
-use Prim.Native.Nat.{ℕ, zero, suc, ◌+◌, ◌*◌}
+use Prim.Native.Nat.{ℕ}
 use native.Mathlib.Omega.{arith}
 use mathlib.Core.Path.{◌≡◌, refl, ap}
 use mathlib.Core.Bool.{true}

@@ -1,12 +1,11 @@
 -- SPDX-License-Identifier: Apache-2.0
 -- Lists of calls through every state of the gate, computed by the rules: what each call answers, the gate after them, and that they meet the premises
 -- of the claim. Assumes nothing.
-use Prim.Native.Nat.{ℕ, zero, suc, ◌+◌, ◌*◌}
+use Prim.Native.Nat.{ℕ}
 use native.Mathlib.Omega.{arith}
 use mathlib.Core.Path.{◌≡◌, refl}
 use mathlib.Core.Bool.{Bool, true, false, ◌&&◌}
-use mathlib.Core.List.{List, [], ◌∷◌, ◌++◌}
-use lib.ListN.{replicate}
+use mathlib.Core.List.{List, [], ◌∷◌}
 use Rattle.basics.specs.Try.{ok, refuse}
 use Rattle.basics.specs.Answers.{done}
 use Rattle.basics.proofs.Tests.{and_left, and_right}

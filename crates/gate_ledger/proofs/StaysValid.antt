@@ -2,14 +2,11 @@
 -- Every list of the twelve calls leaves a valid table, and no call on it gives 10: the eight calls by the plain law, with loading allowed where the
 -- gate admits it, and resize by the same or with table and answer of the gate. Assumes nothing.
 use native.Mathlib.Omega.{arith}
-use mathlib.Core.Path.{◌≡◌, refl, sym, ◌∙◌}
-use mathlib.Core.Bool.{true, false}
+use mathlib.Core.Path.{refl, sym, ◌∙◌}
 use mathlib.Core.List.{List, [], ◌∷◌}
 use Prim.Native.Nat.{ℕ}
 use lib.Dec.{ltb, eqb}
 use lib.ListN.{length}
-use Rattle.basics.specs.Try.{Try, ok, refuse}
-use Rattle.basics.specs.Refusals.{STOP}
 use Rattle.basics.specs.Numbers.{MAX}
 use Rattle.basics.proofs.Tests.{yes!, no!, is, false_true}
 use Rattle.state.specs.declared.State.{State}

@@ -10,7 +10,7 @@ use borrow.Author.Tests.{lt-ltb, le-ltb, not-true}
 use Rattle.basics.specs.Try.{Try, ok, refuse}
 use Rattle.basics.specs.Refusals.{INVALID, ALLOCATION, STOP, PINS, LIST, EXHAUSTED}
 use Rattle.basics.specs.Numbers.{MAX}
-use Rattle.basics.specs.Lists.{some?, down}
+use Rattle.basics.specs.Lists.{down}
 use Rattle.basics.specs.Capacity.{need_capacity}
 use Rattle.basics.specs.Answers.{Fine, done}
 use Rattle.basics.specs.Members.{In, here, there}

@@ -1,6 +1,6 @@
 -- SPDX-License-Identifier: Apache-2.0
 -- Machines that cheat at the gate, each in one way. That the claim fails of them is proved in proofs/Cheats.antt.
-use Rattle.std.specs.Prelude.{ℕ, false, ◌&&◌, eqb}
+use Rattle.std.specs.Prelude.{false, ◌&&◌, eqb}
 use Rattle.basics.specs.Try.{refuse, if◌then◌else◌}
 use Rattle.basics.specs.Refusals.{FULL}
 use Rattle.gate.specs.Gate.{marked}

@@ -20,7 +20,7 @@ use Rattle.state.specs.Fresh.{sound}
 use Rattle.maintenance_resize.specs.Answers.{Size, unchanged, busy_now, resized, Resizing}
 use Rattle.maintenance_resize.specs.Resize.{unless_refused, resize_steps, resize}
 use Rattle.gate.specs.declared.Gate.{Gate}
-use Rattle.gate.specs.Gate.{stops, marked, counted}
+use Rattle.gate.specs.Gate.{stops, marked}
 use Rattle.passage.specs.Resize.{need_input_of, need_input, attempted, attempt_rule, pass_steps, stays, resize_through}
 use Rattle.laws_gate.specs.Laws.{clears, Same, StopsResize, OpenIsPlain, RefusalLeaves, DoneClears, CountsOne}
 

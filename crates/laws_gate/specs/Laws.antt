@@ -1,6 +1,6 @@
 -- SPDX-License-Identifier: Apache-2.0
 -- Document 02, request 1, sentence by sentence, of every table and every gate.
-use Rattle.std.specs.Prelude.{ℕ, ◌+◌, ◌≡◌, ◌⊎◌, Bool, true, false, List, T}
+use Rattle.std.specs.Prelude.{ℕ, ◌+◌, ◌≡◌, ◌⊎◌, Bool, true, false, List}
 use Rattle.basics.specs.Try.{Try, ok, refuse}
 use Rattle.basics.specs.Refusals.{EXHAUSTED}
 use Rattle.basics.specs.Numbers.{MAX}
@@ -10,7 +10,7 @@ use Rattle.state.specs.Answers.{Given, hit, in_progress, reserved, evicted, busy
 use Rattle.maintenance_resize.specs.Answers.{Size, unchanged, busy_now, resized}
 use Rattle.maintenance_resize.specs.Resize.{resize}
 use Rattle.gate.specs.declared.Gate.{Gate}
-use Rattle.gate.specs.Gate.{admits, stops, marked}
+use Rattle.gate.specs.Gate.{admits, stops}
 use Rattle.passage.specs.Access.{access_through}
 use Rattle.passage.specs.Resize.{stays, resize_through}
 

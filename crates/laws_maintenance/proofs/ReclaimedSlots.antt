@@ -45,8 +45,9 @@ reclaimed_more {t} {u} {w} {pins} {xs} x r c f p =
       stays = λ s n. out_other r.inv p s (λ e. n (rw e (in_end xs x))) ∙ r.stays s (λ m. n (in_front_lem x m));
     }
 
-pub reclaimed : {t u : State} {pins xs : List ℕ} → Inv t → Removals pins t u xs → Reclaimed t pins u xs
-reclaimed v none_yet! =
+-- a recursion over removals keeps the pins, so these two have them first
+reclaimed_over : {pins : List ℕ} {t u : State} {xs : List ℕ} → Inv t → Removals pins t u xs → Reclaimed t pins u xs
+reclaimed_over v none_yet! =
     record {
       inv = v;
       capacity = refl;
@@ -61,8 +62,14 @@ reclaimed v none_yet! =
       once = tt;
       stays = λ s n. refl;
     }
-reclaimed v (one_more! x rs e c f p) = reclaimed_more x (reclaimed v rs) c f p
+reclaimed_over v (one_more! x rs e c f p) = reclaimed_more x (reclaimed_over v rs) c f p
+
+removed_valid : {pins : List ℕ} {t u : State} {xs : List ℕ} → Valid t → Removals pins t u xs → Valid u
+removed_valid w none_yet! = w
+removed_valid w (one_more! {u = u} x rs e c f p) = valid_vacant u (removed_valid w rs) p
+
+pub reclaimed : {t u : State} {pins xs : List ℕ} → Inv t → Removals pins t u xs → Reclaimed t pins u xs
+reclaimed v rs = reclaimed_over v rs
 
 pub removals_valid : {t u : State} {pins xs : List ℕ} → Valid t → Removals pins t u xs → Valid u
-removals_valid w none_yet! = w
-removals_valid w (one_more! {u = u} x rs e c f p) = valid_vacant u (removals_valid w rs) p
+removals_valid w rs = removed_valid w rs

@@ -41,10 +41,13 @@ linked_one next c s (x ∷ xs) (y ∷ ys) hc h k =
     let rest : Linked next c (get_or next x 0) ys = rw e at k.2 in
     rw (e, linked_one next c (get_or next x 0) xs ys hc h.2 rest)
 
--- every slot of a chain is below the capacity
+-- every slot of a chain is below the capacity; in the first the slot stands before the link, since a recursion over `In y` keeps y
+low_along : (next : List ℕ) (c y s : ℕ) {xs : List ℕ} → Linked next c s xs → In y xs → y < c
+low_along next c y s h (here {l = xs}) = h.1
+low_along next c y s h (there {b = x} m) = low_along next c y (get_or next x 0) h.2 m
+
 pub linked_low : (next : List ℕ) (c s : ℕ) {y : ℕ} {xs : List ℕ} → Linked next c s xs → In y xs → y < c
-linked_low next c s h (here {l = xs}) = h.1
-linked_low next c s h (there {b = x} m) = linked_low next c (get_or next x 0) h.2 m
+linked_low next c s {y} {xs} h m = low_along next c y s h m
 
 -- a store to a slot that is none of the list's leaves the list linked
 pub linked_set : (next : List ℕ) (c s : ℕ) (xs : List ℕ) (x v : ℕ) → NotIn x xs → Linked next c s xs → Linked (set next x v) c s xs
