@@ -9,8 +9,14 @@ use Rattle.sheet_show.proofs.put_call.Goals as goal
 
 pub returns-then-uses_number : goal.returns-then-uses_number
 unfolding call_text
-returns-then-uses_number c = record { result_value = rw (flag c.uses_number.ensures c.if-uses_number.true, c.put_number.ensures.result_value, c.put_word-word.ensures.result_value); len_bound = omega (arith, c.put_number.ensures.len_bound, c.put_word-word.ensures.len_bound) }
+returns-then-uses_number c = record {
+  result_value = rw (flag c.uses_number.ensures c.if-uses_number.true, c.put_number.ensures.result_value, c.put_word-word.ensures.result_value);
+  len_bound = omega (arith, c.put_number.ensures.len_bound, c.put_word-word.ensures.len_bound);
+}
 
 pub returns : goal.returns
 unfolding call_text
-returns c = record { result_value = rw (flag c.uses_number.ensures c.if-uses_number.false, c.put_word-word.ensures.result_value) (sym (append-nil _)); len_bound = omega (arith, c.put_word-word.ensures.len_bound) }
+returns c = record {
+  result_value = rw (flag c.uses_number.ensures c.if-uses_number.false, c.put_word-word.ensures.result_value) (sym (append-nil _));
+  len_bound = omega (arith, c.put_word-word.ensures.len_bound);
+}

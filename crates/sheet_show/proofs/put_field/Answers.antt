@@ -15,4 +15,11 @@ returns-then-value-usual c = record { result_value = rw (eq-eqb _ _ c.if-value-u
 
 pub returns : goal.returns
 unfolding field_text
-returns c = record { result_value = rw (ne_eqb _ _ c.if-value-usual.false, c.put_number.ensures.result_value, c.put.ensures.result_value) (append_assoc (take c.args.text.len c.args.text.bytes) c.args.name.now (decimal c.args.value)); len_bound = omega arith }
+returns c = record {
+  result_value = rw (
+    ne_eqb _ _ c.if-value-usual.false,
+    c.put_number.ensures.result_value,
+    c.put.ensures.result_value,
+  ) (append_assoc (take c.args.text.len c.args.text.bytes) c.args.name.now (decimal c.args.value));
+  len_bound = omega arith;
+}

@@ -6,8 +6,14 @@ use Rattle.sheet_show.proofs.put_head.Goals as goal
 
 pub returns-then-only_used : goal.returns-then-only_used
 unfolding head_text
-returns-then-only_used c = record { result_value = rw (flag c.only_used.ensures c.if-only_used.true) c.put_call.ensures.result_value; len_bound = c.put_call.ensures.len_bound }
+returns-then-only_used c = record {
+  result_value = rw (flag c.only_used.ensures c.if-only_used.true) c.put_call.ensures.result_value;
+  len_bound = c.put_call.ensures.len_bound;
+}
 
 pub returns : goal.returns
 unfolding head_text
-returns c = record { result_value = rw (flag c.only_used.ensures c.if-only_used.false) c.put_record.ensures.result_value; len_bound = c.put_record.ensures.len_bound }
+returns c = record {
+  result_value = rw (flag c.only_used.ensures c.if-only_used.false) c.put_record.ensures.result_value;
+  len_bound = c.put_record.ensures.len_bound;
+}
