@@ -13,8 +13,9 @@ use lib.ListN.{length, take, drop, set, get_or, drop_of_length-le}
 use lib.Seq.{drop-cons, take-length, drop-drop, get_or-set_same, get_or-set_other}
 use borrow.Author.Tests.{lt-ltb, le-ltb, le-leb, eq-eqb, ne_eqb, eqb-true, eqb-false, ltb-true, leb-true}
 use Rattle.basics.specs.Try.{ok, refuse}
-use Rattle.basics.proofs.Tests.{Is, is, yes!, no!, false_true, and_left, and_right}
-use Rattle.bytes.specs.Bytes.{index_of, slice}
+use Rattle.basics.proofs.Tests.{is, yes!, no!, false_true, and_left, and_right}
+use Rattle.sheet_text.specs.Find.{index_of}
+use Rattle.std.specs.List.{slice_range}
 use Rattle.sheet_record.specs.Good.{good}
 use Rattle.sheet_show.proofs.Laws.{all_from}
 use Rattle.sheet_text.specs.declared.Number.{Number}
@@ -24,11 +25,32 @@ use Rattle.sheet_text.specs.declared.Span.{Span}
 use Rattle.sheet_text.specs.Parse.{counts_as, run_of, same_bytes, place_in, number_from, number_of, number_try, word_size, word, behind, skip, least, most, call_of, begin, faulty, going, with_word, record_of, finished, with_words, text_says, within, good_line}
 
 -- where a byte is found in the whole list
-pub found_at : (b : ℕ) (l : List ℕ) (r : ℕ) → r ≡ 0 + index_of b (slice 0 (length l) l) → r ≡ index_of b l
-unfolding slice
+pub found_at : (b : ℕ) (l : List ℕ) (r : ℕ) → r ≡ 0 + index_of b (slice_range l 0 (length l)) → r ≡ index_of b l
 found_at b l r e =
+    let n : length l - 0 ≡ length l = omega arith in
     let z : 0 + index_of b l ≡ index_of b l = omega arith in
-    e ∙ ap (λ k. 0 + index_of b k) (take-length l) ∙ z
+    e ∙ ap (λ k. 0 + index_of b (take k l)) n ∙ ap (λ k. 0 + index_of b k) (take-length l) ∙ z
+
+-- where it is found, a byte at a time
+module _ (b : ℕ) (l : List ℕ) (i to : ℕ) (inside : i < to) (fits : to ≤ length l) where
+  part_is : slice_range l i to ≡ get_or l i 0 ∷ slice_range l (i + 1) to
+  part_is =
+      let n : to - i ≡ suc (to - suc i) = omega arith in
+      rw (add-one i, n, drop-cons l i 0 (omega arith))
+
+  pub find_here : get_or l i 0 ≡ b → index_of b (slice_range l i to) ≡ 0
+  unfolding index_of
+  find_here e = rw (part_is, eq-eqb (get_or l i 0) b e)
+
+  pub find_goes : (get_or l i 0 ≡ b → ⊥) → index_of b (slice_range l i to) ≡ index_of b (slice_range l (i + 1) to) + 1
+  unfolding index_of
+  find_goes n = rw (part_is, ne_eqb (get_or l i 0) b n) (sym (add-one (index_of b (slice_range l (i + 1) to))))
+
+pub find_ends : (b : ℕ) (l : List ℕ) (i to : ℕ) → to ≤ i → index_of b (slice_range l i to) ≡ 0
+unfolding index_of
+find_ends b l i to h =
+    let n : to - i ≡ 0 = omega arith in
+    rw n
 
 -- ---- a run of bytes
 pub run_goes : (blank : Bool) (text : List ℕ) (i : ℕ) → i < length text → counts_as blank (get_or text i 0) ≡ true → run_of blank (drop i text) ≡ run_of blank (drop (i + 1) text) + 1

@@ -7,7 +7,7 @@ use mathlib.Core.Bool.{Bool, true, false}
 use mathlib.Core.List.{List, [], ◌∷◌, map}
 use Prim.Native.String.{String}
 use lib.ListN.{length, take}
-use Rattle.bytes.specs.Bytes.{index_of, index_after}
+use Rattle.sheet_text.specs.Find.{index_of}
 use Rattle.sheet_lines.specs.declared.Record.{Record}
 use Rattle.sheet_lines.specs.Text.{bytes_of, digits_from, decimal}
 use Rattle.sheet_uses.specs.Uses.{uses_key, uses_place, uses_allow, uses_number, uses, fits, is_code, only_used}
@@ -40,7 +40,7 @@ unfoldable pub line_of : Record → List ℕ
 line_of r = take (length (shown r) - 1) (shown r)
 
 pub said_again : map (λ r. line_says (line_of r)) samples ≡ map (λ r. Parsed.Call r) samples
-unfolding call samples line_of index_of index_after bytes_of digits_from decimal uses_key uses_place uses_allow uses_number uses fits is_code only_used field_text word_text call_text record_text head_text usual_allow shown is_blank counts_as run_of same_bytes place_in number_from number_of field_of least most plain_call call_of begin with_value with_word record_of finished with_words text_says line_says
+unfolding call samples line_of index_of bytes_of digits_from decimal uses_key uses_place uses_allow uses_number uses fits is_code only_used field_text word_text call_text record_text head_text usual_allow shown is_blank counts_as run_of same_bytes place_in number_from number_of field_of least most plain_call call_of begin with_value with_word record_of finished with_words text_says line_says
 said_again = refl
 
 -- lines that are wrong
@@ -72,5 +72,5 @@ pub told : map (λ w. line_says (bytes_of w)) wrong_lines
     ∷ faulty 7 2 8
     ∷ faulty 7 0 6
     ∷ []
-unfolding wrong_lines index_of index_after bytes_of uses_key uses_place uses_allow uses_number uses is_blank counts_as run_of same_bytes place_in number_from number_of field_of least most plain_call call_of begin with_value with_word record_of finished with_words text_says line_says
+unfolding wrong_lines index_of bytes_of uses_key uses_place uses_allow uses_number uses is_blank counts_as run_of same_bytes place_in number_from number_of field_of least most plain_call call_of begin with_value with_word record_of finished with_words text_says line_says
 told = refl

@@ -1,2 +1,3 @@
 -- SPDX-License-Identifier: Apache-2.0
+pub mod Find
 pub mod Parse

@@ -4,7 +4,7 @@
 -- Where a line is wrong, the word that is wrong is told by its place in the line.
 use Rattle.std.specs.Prelude.{ℕ, zero, suc, ◌+◌, ◌-◌, ◌*◌, Bool, true, false, not, ◌&&◌, List, [], ◌∷◌, eqb, ltb, leb, length, take, drop, get_or, set}
 use Rattle.basics.specs.Try.{Try, ok, refuse, if◌then◌else◌}
-use Rattle.bytes.specs.Bytes.{index_of}
+use Rattle.sheet_text.specs.Find.{index_of}
 use Rattle.sheet_lines.specs.declared.Record.{Record}
 use Rattle.sheet_lines.specs.Text.{bytes_of}
 use Rattle.sheet_record.specs.Good.{good}

@@ -2,13 +2,13 @@
 // A line of a run sheet's text form read (sheets/README.md): one call a line, with names for fields. Crate `sheet_show` has the way back.
 #![tactic(auto)]
 
-ghost use Rattle.std.specs.Prelude.{◌≡◌, true, ◌+◌, ◌≤◌, ◌<◌, length, drop};
+ghost use Rattle.std.specs.Prelude.{◌≡◌, true, ◌+◌, ◌≤◌, ◌<◌, length, drop, slice_range};
 ghost use Rattle.basics.specs.Try.{if◌then◌else◌};
+ghost use Rattle.sheet_text.specs.Find.{index_of};
 ghost use Rattle.sheet_text.specs.Parse.{is_blank, counts_as, run_of, same_bytes, word_size, word_place, number_try, number_of, field_of, least, most};
 ghost use Rattle.sheet_text.specs.Parse.{plain_call, call_of, begin, stop, with_value, with_word, record_of, finished, with_words, text_says};
 ghost use Rattle.sheet_text.specs.Parse.{line_says, within, good_line};
 
-use bytes::scan::find;
 use check::same;
 use key::CacheKey;
 use sheet_lines::Record;
@@ -112,6 +112,22 @@ fn run_of(blank: bool, text: &[u8]) -> usize
     let mut i: usize = 0;
     while i < text.len() {
         if !counts_as(blank, text[i]) {
+            return i;
+        }
+        i += 1;
+    }
+    i
+}
+
+// Where a byte first stands in a part of a text; the part's end where it does not.
+fn find(text: &[u8], from: usize, to: usize, byte: u8) -> usize
+    requires { (from ≤ to) × (to ≤ length text.now) }
+    ensures value { result ≡ from + index_of byte (slice_range text.now from to) }
+    ensures upper_bound { result ≤ to }
+{
+    let mut i = from;
+    while i < to {
+        if text[i] == byte {
             return i;
         }
         i += 1;

@@ -8,6 +8,11 @@ use Rattle.sheet_words.proofs.line_of.Goals as goal
 pub returns : goal.returns
 unfolding line_of
 returns c = record {
-  result_value = rw (c.digits.ensures.result_value, c.front.ensures.result_value, c.put_word-second.ensures.result_value, c.tail_of-tail.ensures.result_value) (simp append_assoc);
+  result_value = rw (
+    c.digits.ensures.result_value,
+    c.front.ensures.result_value,
+    c.put_word-second.ensures.result_value,
+    c.tail_of-tail.ensures.result_value,
+  ) (simp append_assoc);
   from_bound = omega arith;
 }

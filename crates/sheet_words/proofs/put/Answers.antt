@@ -15,8 +15,14 @@ loop-left-init c = (omega arith, omega arith, search rules, ap (λ l. l ++ drop 
 
 pub loop-left-preserved : goal.loop-left-preserved
 loop-left-preserved c =
-    let e = front_at c.loop-left.bytes c.loop-left.from (get_or c.args.text.now (c.loop-left.left - 1) 0) (omega arith) (omega arith) in
-    (omega arith, omega arith, simp length-set c.loop-left.invariant.2, e ∙ ap (λ l. get_or c.args.text.now (c.loop-left.left - 1) 0 ∷ l) c.loop-left.invariant.3 ∙ one_more_lem c.args.text.now (drop c.args.line.from c.args.line.bytes) c.loop-left.left c.loop-left-test.true c.loop-left.invariant.1)
+    let e = front_at c.loop-left.bytes c.loop-left.from (get_or c.args.text.now (c.loop-left.left - 1) 0) (omega arith) (omega arith) in (
+      omega arith,
+      omega arith,
+      simp length-set c.loop-left.invariant.2,
+      e
+          ∙ ap (λ l. get_or c.args.text.now (c.loop-left.left - 1) 0 ∷ l) c.loop-left.invariant.3
+          ∙ one_more_lem c.args.text.now (drop c.args.line.from c.args.line.bytes) c.loop-left.left c.loop-left-test.true c.loop-left.invariant.1,
+    )
 
 pub returns : goal.returns
 returns c =
