@@ -1,7 +1,7 @@
 -- SPDX-License-Identifier: Apache-2.0
 -- "From the input": the capacities that a table may have.
 use Rattle.std.specs.Prelude.{ℕ, ◌^◌, ◌&&◌, ltb, leb}
-use Rattle.basics.specs.Try.{Try, ok, ◌>>=◌, ◌>>◌, need}
+use Rattle.basics.specs.Try.{Try, ok, ◌>>◌, need}
 use Rattle.basics.specs.Refusals.{INVALID, ALLOCATION}
 use Rattle.basics.specs.Answers.{Fine, done}
 

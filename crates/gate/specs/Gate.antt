@@ -1,7 +1,7 @@
 -- SPDX-License-Identifier: Apache-2.0
 -- Document 02, request 1: "the gate of `maintain_capacity` in the library: a count of pauses, a count of dirty pages, a pending mark and a 64-bit
 -- generation".
-use Rattle.std.specs.Prelude.{ℕ, ◌+◌, ◌-◌, Bool, true, false, not, ◌&&◌, eqb, ltb}
+use Rattle.std.specs.Prelude.{ℕ, ◌+◌, ◌-◌, Bool, false, not, ◌&&◌, eqb, ltb}
 use Rattle.basics.specs.Try.{Try, ok, refuse, ◌>>=◌, ◌>>◌, need}
 use Rattle.basics.specs.Refusals.{FULL, EMPTY}
 use Rattle.basics.specs.Numbers.{MAX}

@@ -1,7 +1,7 @@
 -- SPDX-License-Identifier: Apache-2.0
 -- `Index::try_new`: "The free stack of a fresh table gives 0, 1, 2 and so on"; "other places past a length are 0".
 use Rattle.std.specs.Prelude.{ℕ, ◌-◌, ◌++◌, replicate}
-use Rattle.basics.specs.Try.{Try, ok, ◌>>=◌, ◌>>◌}
+use Rattle.basics.specs.Try.{Try, ok, ◌>>◌}
 use Rattle.basics.specs.Numbers.{NONE}
 use Rattle.basics.specs.Lists.{down}
 use Rattle.basics.specs.Capacity.{need_capacity}

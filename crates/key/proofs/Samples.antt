@@ -1,6 +1,6 @@
 -- SPDX-License-Identifier: Apache-2.0
 -- The bucket rule at single keys, computed: bits that come round, the sum at its end, and that file alone is turned. Assumes nothing.
-use Rattle.std.proofs.Common.{◌≡◌, ℕ, ◌-◌, ◌^◌, List, [], ◌∷◌, map, refl}
+use Rattle.std.proofs.Common.{◌≡◌, ℕ, ◌-◌, ◌^◌, [], ◌∷◌, map, refl}
 use Rattle.basics.specs.Numbers.{MAX}
 use Rattle.key.specs.declared.CacheKey.{CacheKey}
 use Rattle.key.specs.Bucket.{rotated, sum_of, bucket_of}

@@ -1,7 +1,7 @@
 -- SPDX-License-Identifier: Apache-2.0
 -- The bucket rule and the bucket count.
 use Rattle.std.specs.Prelude.{ℕ, ◌+◌, ◌*◌, ◌/◌, ◌%◌, ◌^◌}
-use Rattle.basics.specs.Try.{Try, ok, ◌>>=◌, ◌>>◌}
+use Rattle.basics.specs.Try.{Try, ok, ◌>>◌}
 use Rattle.basics.specs.Numbers.{power_over}
 use Rattle.basics.specs.Capacity.{need_capacity}
 use Rattle.key.specs.declared.CacheKey.{CacheKey}

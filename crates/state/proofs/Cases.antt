@@ -11,7 +11,7 @@ use Rattle.basics.specs.Try.{Try, ok, refuse, ◌>>◌}
 use Rattle.basics.specs.Answers.{Fine, done, done_answer}
 use Rattle.basics.specs.Capacity.{need_capacity}
 use Rattle.basics.specs.declared.Done.{Done}
-use Rattle.basics.proofs.Tests.{yes!, no!, is, and_left, and_right, went}
+use Rattle.basics.proofs.Tests.{yes!, no!, is, and_left, and_right}
 use Rattle.basics.proofs.Capacities.{capacity_fits, capacity_allowed}
 use Rattle.key.specs.declared.Count.{Count}
 use Rattle.key.specs.Answers.{count_answer}

@@ -1,7 +1,7 @@
 -- SPDX-License-Identifier: Apache-2.0
 -- `new`, and the first test of 10.
 use Rattle.std.specs.Prelude.{ℕ, Bool, ◌&&◌, ltb, leb, eqb, replicate}
-use Rattle.basics.specs.Try.{ok, ◌>>=◌, ◌>>◌}
+use Rattle.basics.specs.Try.{ok, ◌>>◌}
 use Rattle.basics.specs.Answers.{Fine, done}
 use Rattle.basics.specs.Capacity.{need_capacity}
 use Rattle.key.specs.Bucket.{bucket_count}

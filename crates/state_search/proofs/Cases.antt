@@ -7,7 +7,7 @@ use mathlib.Core.Option.{Option, none, some}
 use native.Mathlib.Omega.{arith}
 use lib.Dec.{leb, eqb}
 use borrow.Author.Tests.{eqb-false, le-leb, lt-leb, eq-eqb, ne_eqb, not-true}
-use Rattle.basics.specs.Try.{Try, ok, refuse, ◌>>=◌, ◌>>◌, if◌then◌else◌}
+use Rattle.basics.specs.Try.{Try, ok, refuse, ◌>>=◌, if◌then◌else◌}
 use Rattle.basics.specs.Refusals.{STOP, EXHAUSTED}
 use Rattle.basics.specs.Numbers.{NONE, MAX}
 use Rattle.basics.proofs.Tests.{yes!, no!, is, one_less_lem, met}

@@ -1,12 +1,10 @@
 -- SPDX-License-Identifier: Apache-2.0
 -- `filled_positions` meets its contract: one place more is filled in each turn. Assumes nothing.
 use Prim.Native.Nat.{◌-◌, ◌≤◌}
-use mathlib.Core.Path.{◌≡◌, refl, ◌∙◌, ap}
-use native.Mathlib.Omega.{arith}
-use lib.ListN.{set, replicate}
-use borrow.Author.Rules.{rules}
+use mathlib.Core.Path.{◌≡◌}
+use lib.ListN.{replicate}
 use Rattle.basics.specs.Numbers.{NONE}
-use Rattle.basics.proofs.Fills.{filled, same_turn, same_end}
+use Rattle.basics.proofs.Fills.{filled}
 use Rattle.eviction.proofs.filled_positions.Given as goal
 
 abbrev pub invariant-loop-i : goal.invariant-loop-i

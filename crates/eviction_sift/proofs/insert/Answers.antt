@@ -1,7 +1,6 @@
 -- SPDX-License-Identifier: Apache-2.0
 -- `eviction_sift::insert` meets its contract: the sift is that of the rule, and what a refused one leaves to take back is the entry, the length and the place. Assumes nothing.
 use mathlib.Core.Path.{sym, ◌∙◌}
-use borrow.Author.Rules.{rules}
 use Rattle.basics.proofs.Tests.{tests}
 use Rattle.eviction.specs.Entries.{sized}
 use Rattle.eviction.specs.Heap.{insert_heap}

@@ -1,7 +1,6 @@
 -- SPDX-License-Identifier: Apache-2.0
 -- `eviction_sift::remove` meets its contract: each return is an end of the rule, and a refusal hands back the heap that was kept. Assumes nothing.
 use mathlib.Core.Path.{refl, sym, ◌∙◌, ap}
-use borrow.Author.Rules.{rules}
 use Rattle.basics.proofs.Tests.{tests, flag}
 use Rattle.eviction.specs.Answers.{moved_of}
 use Rattle.eviction.specs.Entries.{sized}

@@ -1,7 +1,6 @@
 -- SPDX-License-Identifier: Apache-2.0
 -- `right` meets its contract: it is the branch of the test. Assumes nothing.
 use native.Mathlib.Omega.{arith}
-use borrow.Author.Rules.{rules}
 use Rattle.basics.proofs.Tests.{tests}
 use Rattle.eviction_swaps.proofs.right.Goals as goal
 

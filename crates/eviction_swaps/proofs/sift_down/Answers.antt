@@ -1,12 +1,11 @@
 -- SPDX-License-Identifier: Apache-2.0
 -- `eviction_swaps::sift_down` meets its contract: the loop sifts on from the place p in the steps left. Assumes nothing.
-use mathlib.Core.Path.{◌≡◌, refl, sym, ◌∙◌, ap}
-use Prim.Native.Nat.{◌≤◌, ◌<◌}
+use mathlib.Core.Path.{refl, sym, ◌∙◌, ap}
 use native.Mathlib.Omega.{arith}
 use borrow.Author.Rules.{rules}
 use Rattle.basics.proofs.Tests.{flag}
 use Rattle.eviction.specs.Answers.{try_moved}
-use Rattle.eviction.specs.Sift.{down_to, sift_from}
+use Rattle.eviction.specs.Sift.{down_to}
 use Rattle.eviction_swaps.proofs.Cases.{child_is, down_leaf, down_stays, down_goes, sift_end, sift_stays, sift_stops_other, sift_stops_own, sift_goes}
 use Rattle.eviction_swaps.proofs.sift_down.Goals as goal
 

@@ -1,13 +1,8 @@
 -- SPDX-License-Identifier: Apache-2.0
 -- `eviction_swaps::sift_up` meets its contract: the loop sifts on from the place p in the steps left. Assumes nothing.
-use mathlib.Core.Path.{◌≡◌, refl, sym, ◌∙◌, ap}
+use mathlib.Core.Path.{◌≡◌}
 use Prim.Native.Nat.{◌<◌}
-use native.Mathlib.Omega.{arith}
-use borrow.Author.Rules.{rules}
-use Rattle.basics.proofs.Tests.{flag}
-use Rattle.eviction.specs.Answers.{try_moved}
 use Rattle.eviction.specs.Sift.{up_to, sift_from}
-use Rattle.eviction_swaps.proofs.Cases.{up_stays, up_goes, sift_end, sift_stays, sift_stops_other, sift_stops_own, sift_goes}
 use Rattle.eviction_swaps.proofs.sift_up.Given as goal
 
 abbrev pub invariant-loop-left : goal.invariant-loop-left

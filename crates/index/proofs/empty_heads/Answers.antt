@@ -1,12 +1,10 @@
 -- SPDX-License-Identifier: Apache-2.0
 -- `index::empty_heads` meets its contract: one place more is filled in each turn. Assumes nothing.
-use Prim.Native.Nat.{◌-◌, ◌≤◌}
 use mathlib.Core.Path.{◌≡◌, refl, ◌∙◌, ap}
 use native.Mathlib.Omega.{arith}
-use lib.ListN.{set, replicate}
-use borrow.Author.Rules.{rules}
+use lib.ListN.{set}
 use Rattle.basics.specs.Numbers.{NONE}
-use Rattle.basics.proofs.Fills.{filled, same_turn, same_end}
+use Rattle.basics.proofs.Fills.{same_turn, same_end}
 use Rattle.index.proofs.empty_heads.Goals as goal
 
 pub loop-i-init : goal.loop-i-init

@@ -1,12 +1,10 @@
 -- SPDX-License-Identifier: Apache-2.0
 -- `index::full_stack` meets its contract: one place more is filled in each turn. Assumes nothing.
-use Prim.Native.Nat.{◌-◌, ◌≤◌}
+use Prim.Native.Nat.{◌-◌}
 use mathlib.Core.Path.{◌≡◌, refl, ◌∙◌, ap}
 use native.Mathlib.Omega.{arith}
 use lib.ListN.{set}
-use borrow.Author.Rules.{rules}
-use Rattle.basics.specs.Lists.{down}
-use Rattle.basics.proofs.Fills.{filled, down_turn, down_end}
+use Rattle.basics.proofs.Fills.{down_turn, down_end}
 use Rattle.index.proofs.full_stack.Goals as goal
 
 pub loop-i-init : goal.loop-i-init

@@ -1,12 +1,9 @@
 -- SPDX-License-Identifier: Apache-2.0
 -- `index::full_stack` meets its contract: one place more is filled in each turn. Assumes nothing.
 use Prim.Native.Nat.{◌-◌, ◌≤◌}
-use mathlib.Core.Path.{◌≡◌, refl, ◌∙◌, ap}
-use native.Mathlib.Omega.{arith}
-use lib.ListN.{set}
-use borrow.Author.Rules.{rules}
+use mathlib.Core.Path.{◌≡◌}
 use Rattle.basics.specs.Lists.{down}
-use Rattle.basics.proofs.Fills.{filled, down_turn, down_end}
+use Rattle.basics.proofs.Fills.{filled}
 use Rattle.index.proofs.full_stack.Given as goal
 
 abbrev pub invariant-loop-i : goal.invariant-loop-i

@@ -2,7 +2,6 @@
 -- `index::head` meets its contract: past the heads there is 0. Assumes nothing.
 use mathlib.Core.Path.{sym}
 use lib.ListN.{get_or-eq_default}
-use borrow.Author.Rules.{rules}
 use Rattle.index.proofs.head.Goals as goal
 
 pub returns-then-all-bucket : goal.returns-then-all-bucket

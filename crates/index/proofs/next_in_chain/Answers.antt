@@ -2,7 +2,6 @@
 -- `index::next_in_chain` meets its contract: past the places there is 0. Assumes nothing.
 use mathlib.Core.Path.{sym}
 use lib.ListN.{get_or-eq_default}
-use borrow.Author.Rules.{rules}
 use Rattle.index.proofs.next_in_chain.Goals as goal
 
 pub returns-then-all-slot : goal.returns-then-all-slot

@@ -1,7 +1,6 @@
 -- SPDX-License-Identifier: Apache-2.0
 -- `index_chains::can_insert` meets its contract. Assumes nothing.
 use mathlib.Core.Path.{refl}
-use borrow.Author.Rules.{rules}
 use Rattle.basics.proofs.Tests.{tests, flag}
 use Rattle.index.specs.Chain.{can_insert}
 use Rattle.index_chains.proofs.can_insert.Goals as goal

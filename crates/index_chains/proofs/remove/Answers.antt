@@ -1,15 +1,12 @@
 -- SPDX-License-Identifier: Apache-2.0
 -- `index_chains::remove` meets its contract: the rest of the search answers what the whole search does. Assumes nothing.
-use Prim.Native.Nat.{◌<◌}
-use mathlib.Core.Path.{◌≡◌, refl}
-use mathlib.Core.Logic.{◌⊎◌, ⊎_elim, inl, inr}
+use mathlib.Core.Path.{refl}
+use mathlib.Core.Logic.{⊎_elim, inl, inr}
 use native.Mathlib.Omega.{arith}
-use lib.ListN.{get_or}
 use borrow.Author.Tests.{lt-leb, eq-eqb, ne_eqb}
 use borrow.Author.Rules.{rules}
 use Rattle.basics.proofs.Tests.{tests, flag}
-use Rattle.basics.specs.Numbers.{NONE}
-use Rattle.index.specs.Chain.{CHAIN, unlinked, remove_from, remove_index}
+use Rattle.index.specs.Chain.{unlinked, remove_index}
 use Rattle.index.proofs.Cases.{has_sizes}
 use Rattle.index_chains.proofs.Cases.{bucket_below, remove_start, remove_step, remove_end}
 use Rattle.index_chains.proofs.remove.Goals as goal

@@ -1,10 +1,7 @@
 -- SPDX-License-Identifier: Apache-2.0
 -- `index_chains::room_from` meets its contract: the rest of the walk answers what the whole walk does. Assumes nothing.
-use mathlib.Core.Path.{◌≡◌, refl}
-use borrow.Author.Rules.{rules}
+use mathlib.Core.Path.{refl}
 use Rattle.basics.proofs.Tests.{tests}
-use Rattle.index.specs.declared.Index.{Index}
-use Rattle.index.specs.Chain.{CHAIN, room_from}
 use Rattle.index_chains.proofs.Cases.{room_step, room_end}
 use Rattle.index_chains.proofs.room_from.Goals as goal
 

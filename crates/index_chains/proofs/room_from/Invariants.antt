@@ -1,11 +1,8 @@
 -- SPDX-License-Identifier: Apache-2.0
 -- `index_chains::room_from` meets its contract: the rest of the walk answers what the whole walk does. Assumes nothing.
-use mathlib.Core.Path.{◌≡◌, refl}
-use borrow.Author.Rules.{rules}
-use Rattle.basics.proofs.Tests.{tests}
+use mathlib.Core.Path.{◌≡◌}
 use Rattle.index.specs.declared.Index.{Index}
 use Rattle.index.specs.Chain.{CHAIN, room_from}
-use Rattle.index_chains.proofs.Cases.{room_step, room_end}
 use Rattle.index_chains.proofs.room_from.Given as goal
 
 abbrev pub invariant-loop-left : goal.invariant-loop-left

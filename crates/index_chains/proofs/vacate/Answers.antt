@@ -4,7 +4,6 @@ use Rattle.index.specs.Chain.{remove_index}
 use Rattle.index.specs.Free.{release_index, vacate}
 use Rattle.index.proofs.Cases.{moved_back}
 use Rattle.index_chains.proofs.Cases.{moved_done}
-use borrow.Author.Rules.{rules}
 use Rattle.index_chains.proofs.vacate.Goals as goal
 
 pub returns-in-Refused : goal.returns-in-Refused

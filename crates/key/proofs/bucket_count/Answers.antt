@@ -1,7 +1,7 @@
 -- SPDX-License-Identifier: Apache-2.0
 -- `key::bucket_count` meets its contract: the shift is that of the law `count_zeros`, and loses no digit, since no table has more than 512 buckets.
 -- Assumes nothing.
-use Rattle.std.proofs.Common.{◌≡◌, ℕ, ◌-◌, ◌*◌, ◌%◌, ◌^◌, ◌<◌, ◌≤◌, sym, ap, ◌∙◌, arith, rules}
+use Rattle.std.proofs.Common.{◌≡◌, ℕ, ◌-◌, ◌*◌, ◌%◌, ◌^◌, ◌<◌, ◌≤◌, sym, ap, ◌∙◌, arith}
 use lib.Count.{count_leading_zeros, leading_le, leading_length}
 use Rattle.basics.specs.Try.{ok, refuse}
 use Rattle.basics.specs.declared.Done.{Done}

@@ -1,7 +1,6 @@
 -- SPDX-License-Identifier: Apache-2.0
 -- `empty` meets its contract. Assumes nothing.
 use Rattle.state.specs.Fresh.{empty}
-use borrow.Author.Rules.{rules}
 use Rattle.state.proofs.empty.Goals as goal
 
 pub returns : goal.returns

@@ -2,7 +2,6 @@
 -- `loads_for` meets its contract: one test after the other. Assumes nothing.
 use Rattle.basics.proofs.Tests.{tests, flag}
 use Rattle.state.specs.Tokens.{loads_for}
-use borrow.Author.Rules.{rules}
 use Rattle.state.proofs.loads_for.Goals as goal
 
 pub returns-then-slot-ne-LOADING : goal.returns-then-slot-ne-LOADING

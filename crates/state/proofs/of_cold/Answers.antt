@@ -2,7 +2,6 @@
 -- `of_cold` meets its contract: each case is the same. Assumes nothing.
 use mathlib.Core.Path.{sym, ap}
 use Rattle.eviction.specs.Answers.{cold_answer}
-use borrow.Author.Rules.{rules}
 use Rattle.state.proofs.of_cold.Goals as goal
 
 pub returns-in-At : goal.returns-in-At

@@ -3,7 +3,6 @@
 use mathlib.Core.Path.{sym}
 use Rattle.basics.proofs.Tests.{tests}
 use Rattle.state.proofs.Cases.{no_count, count_tested}
-use borrow.Author.Rules.{rules}
 use Rattle.state.proofs.sound.Goals as goal
 
 pub returns-in_default : goal.returns-in_default

@@ -12,10 +12,9 @@ use Rattle.state.proofs.Cases.{sound_sizes_lem, heap_told, index_told}
 use Rattle.state_search.proofs.Cases.{walk_starts, walk_in, walk_ends, walk_long, walk_astray, walk_vacant, walk_meets, walk_on, seek_refused, seek_absent}
 use Rattle.state_search.proofs.Cases.{seek_waits, seek_stops, seek_hits, touched_next}
 use Rattle.state_choice.proofs.Cases.{chosen_told}
-use Rattle.state_access.proofs.Cases.{freed_told, PinnedWalk, came, access_unsound, access_unpinned, access_stopped, access_waits, access_hits}
+use Rattle.state_access.proofs.Cases.{freed_told, came, access_unsound, access_unpinned, access_stopped, access_waits, access_hits}
 use Rattle.state_access.proofs.Cases.{access_unchosen, access_busy, access_reserves, access_unreserved, no_generation, no_use, no_slot, not_freed}
 use Rattle.state_access.proofs.Cases.{not_linked, not_counted, reserves}
-use borrow.Author.Rules.{rules}
 use Rattle.state_access.proofs.access.Goals as goal
 
 pub returns-then-not-sound : goal.returns-then-not-sound

@@ -1,6 +1,5 @@
 -- SPDX-License-Identifier: Apache-2.0
 -- `state_access::count_load` meets its contract. Assumes nothing.
-use borrow.Author.Rules.{rules}
 use Rattle.state_access.proofs.count_load.Goals as goal
 
 pub returns-then-left : goal.returns-then-left

@@ -8,7 +8,6 @@ use Rattle.eviction.specs.Heap.{remove_heap}
 use Rattle.eviction.proofs.Cases.{moved_back as heap-back}
 use Rattle.state.specs.Access.{evict, free}
 use Rattle.state_access.proofs.Cases.{take_top_lem}
-use borrow.Author.Rules.{rules}
 use Rattle.state_access.proofs.free.Goals as goal
 
 pub returns-then-previous-eq-LOADING : goal.returns-then-previous-eq-LOADING

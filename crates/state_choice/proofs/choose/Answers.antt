@@ -1,7 +1,6 @@
 -- SPDX-License-Identifier: Apache-2.0
 -- `state_choice::choose` meets its contract. Assumes nothing.
 use Rattle.state.specs.Access.{choose}
-use borrow.Author.Rules.{rules}
 use Rattle.state_choice.proofs.choose.Goals as goal
 
 pub returns-then-not-allow_load : goal.returns-then-not-allow_load

@@ -1,7 +1,6 @@
 -- SPDX-License-Identifier: Apache-2.0
 -- `state_choice::target` meets its contract. Assumes nothing.
 use Rattle.state.specs.Victim.{target_or, target}
-use borrow.Author.Rules.{rules}
 use Rattle.state_choice.proofs.target.Goals as goal
 
 pub returns-in-Refused : goal.returns-in-Refused

@@ -2,7 +2,6 @@
 -- `state_choice::victim` meets its contract. Assumes nothing.
 use mathlib.Core.Path.{◌∙◌}
 use Rattle.state_choice.proofs.Cases.{victim_few, victim_most}
-use borrow.Author.Rules.{rules}
 use Rattle.state_choice.proofs.victim.Goals as goal
 
 pub returns-then-clean-lt-PLACES : goal.returns-then-clean-lt-PLACES

@@ -8,7 +8,7 @@ use Rattle.state.specs.declared.State.{State}
 use Rattle.state.specs.Find.{touch_next}
 use Rattle.state.specs.Lookup.{found_seen}
 use Rattle.state.proofs.Cases.{heap_told}
-use Rattle.state_search.proofs.Cases.{find_unsound, Walking, walk_starts, walk_in, walk_ends, walk_long, walk_astray, walk_vacant, walk_meets, walk_on}
+use Rattle.state_search.proofs.Cases.{find_unsound, walk_starts, walk_in, walk_ends, walk_long, walk_astray, walk_vacant, walk_meets, walk_on}
 use Rattle.state_search.proofs.Cases.{seek_refused, seek_absent, seek_waits, seek_stops, seek_hits, lookup_sought, looked, touched_next}
 use borrow.Author.Rules.{rules}
 use Rattle.state_lookup.proofs.lookup.Goals as goal

@@ -2,7 +2,6 @@
 -- `clean_with` meets its contract. Assumes nothing.
 use Rattle.basics.proofs.Tests.{tests}
 use Rattle.state.specs.Slots.{clean_with}
-use borrow.Author.Rules.{rules}
 use Rattle.state_search.proofs.clean_with.Goals as goal
 
 pub returns-then-slot-ne-CLEAN : goal.returns-then-slot-ne-CLEAN

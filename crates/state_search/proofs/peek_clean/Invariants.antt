@@ -1,13 +1,8 @@
 -- SPDX-License-Identifier: Apache-2.0
 -- `peek_clean` meets its contract. The invariant: the walk from here on, with the steps left, is the whole walk. The measure is what is left. Assumes nothing.
-use mathlib.Core.Path.{◌≡◌, refl}
-use borrow.Author.Tests.{le-leb, lt-leb, eq-eqb, ne_eqb}
-use borrow.Author.Rules.{rules}
+use mathlib.Core.Path.{◌≡◌}
 use Rattle.index.specs.Chain.{CHAIN}
-use Rattle.basics.proofs.Tests.{tests, flag}
-use Rattle.state.proofs.Cases.{sound_sizes_lem}
-use Rattle.state_search.proofs.Cases.{peek_step, peek_end}
-use Rattle.state.specs.Reads.{peek_from, peek_clean}
+use Rattle.state.specs.Reads.{peek_from}
 use Rattle.state_search.proofs.peek_clean.Given as goal
 
 abbrev pub invariant-loop-left : goal.invariant-loop-left

@@ -2,7 +2,6 @@
 -- `touch_next` meets its contract. Assumes nothing.
 use Rattle.basics.proofs.Tests.{tests}
 use Rattle.state.specs.Find.{touch_next}
-use borrow.Author.Rules.{rules}
 use Rattle.state_search.proofs.touch_next.Goals as goal
 
 pub returns-then-last-eq-MAX : goal.returns-then-last-eq-MAX

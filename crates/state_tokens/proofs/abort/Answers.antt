@@ -6,7 +6,6 @@ use Rattle.basics.proofs.Tests.{flag}
 use Rattle.index.specs.Free.{vacate}
 use Rattle.state.proofs.Cases.{sound_sizes_lem, index_told, outstanding_out, outstanding_in}
 use Rattle.state_tokens.proofs.Cases.{abort_unsound, abort_stale, abort_kept, abort_none, aborts}
-use borrow.Author.Rules.{rules}
 use Rattle.state_tokens.proofs.abort.Goals as goal
 
 pub returns-then-not-sound : goal.returns-then-not-sound

@@ -6,7 +6,6 @@ use Rattle.basics.proofs.Tests.{flag}
 use Rattle.eviction.specs.Heap.{insert_heap}
 use Rattle.state.proofs.Cases.{sound_sizes_lem, heap_told, outstanding_out, outstanding_in}
 use Rattle.state_tokens.proofs.Cases.{publish_unsound, publish_stale, publish_ungiven, publish_kept, publish_none, publish_full, publishes}
-use borrow.Author.Rules.{rules}
 use Rattle.state_tokens.proofs.publish.Goals as goal
 
 pub returns-then-not-sound : goal.returns-then-not-sound

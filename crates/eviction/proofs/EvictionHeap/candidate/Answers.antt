@@ -1,6 +1,5 @@
 -- SPDX-License-Identifier: Apache-2.0
 -- `EvictionHeap::candidate` meets its contract: each return has the tests that led there. Assumes nothing.
-use borrow.Author.Rules.{rules}
 use Rattle.basics.proofs.Tests.{tests}
 use Rattle.eviction.specs.Entries.{sized}
 use Rattle.eviction.specs.Victim.{candidate_at}

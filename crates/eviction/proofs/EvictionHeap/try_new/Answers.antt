@@ -4,7 +4,6 @@ use Prim.Native.Nat.{ℕ, ◌-◌}
 use mathlib.Core.Path.{◌≡◌, sym, ◌∙◌, ap}
 use mathlib.Core.List.{List, ◌++◌}
 use lib.ListN.{replicate}
-use borrow.Author.Rules.{rules}
 use Rattle.basics.specs.Try.{refuse}
 use Rattle.basics.specs.Numbers.{NONE}
 use Rattle.basics.specs.declared.Done.{Done}

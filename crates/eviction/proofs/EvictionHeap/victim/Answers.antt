@@ -1,11 +1,9 @@
 -- SPDX-License-Identifier: Apache-2.0
 -- `EvictionHeap::victim` meets its contract: the loop searches from the place i in the places left. Assumes nothing.
-use mathlib.Core.Path.{◌≡◌}
-use borrow.Author.Rules.{rules}
 use borrow.Author.Tests.{le-leb, lt-leb, eq-eqb, ne_eqb}
 use Rattle.basics.proofs.Tests.{tests}
 use Rattle.eviction.specs.Entries.{sized}
-use Rattle.eviction.specs.Victim.{victim_from, victim_of}
+use Rattle.eviction.specs.Victim.{victim_of}
 use Rattle.eviction.proofs.Cases.{victim_end, victim_step}
 use Rattle.eviction.proofs.EvictionHeap.victim.Goals as goal
 

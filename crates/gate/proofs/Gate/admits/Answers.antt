@@ -2,8 +2,6 @@
 -- `gate::Gate::admits` meets its contract. Assumes nothing.
 use Rattle.std.proofs.Common.{ap, not}
 use Rattle.gate.proofs.Cases.{admits_off, admits_paused, admits_mark}
-use Rattle.basics.proofs.Tests.{tests}
-use Rattle.gate.specs.Gate.{admits}
 use Rattle.gate.proofs.Gate.admits.Goals as goal
 
 pub returns-then-not-allow_load : goal.returns-then-not-allow_load

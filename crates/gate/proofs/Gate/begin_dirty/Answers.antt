@@ -2,7 +2,6 @@
 -- `gate::Gate::begin_dirty` meets its contract. Assumes nothing.
 use Rattle.basics.proofs.Tests.{tests}
 use Rattle.gate.specs.Gate.{begin_dirty, one_more}
-use borrow.Author.Rules.{rules}
 use Rattle.gate.proofs.Gate.begin_dirty.Goals as goal
 
 pub returns-then-self-eq-MAX : goal.returns-then-self-eq-MAX

@@ -2,7 +2,6 @@
 -- `gate::Gate::begin_pause` meets its contract. Assumes nothing.
 use Rattle.basics.proofs.Tests.{tests}
 use Rattle.gate.specs.Gate.{begin_pause, one_more}
-use borrow.Author.Rules.{rules}
 use Rattle.gate.proofs.Gate.begin_pause.Goals as goal
 
 pub returns-then-self-eq-MAX : goal.returns-then-self-eq-MAX

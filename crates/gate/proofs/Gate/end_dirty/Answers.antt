@@ -2,7 +2,6 @@
 -- `gate::Gate::end_dirty` meets its contract. Assumes nothing.
 use Rattle.basics.proofs.Tests.{tests}
 use Rattle.gate.specs.Gate.{end_dirty, one_less}
-use borrow.Author.Rules.{rules}
 use Rattle.gate.proofs.Gate.end_dirty.Goals as goal
 
 pub returns-then-self-eq0 : goal.returns-then-self-eq0

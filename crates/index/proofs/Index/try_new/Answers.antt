@@ -3,7 +3,6 @@
 use Prim.Native.Nat.{ℕ, ◌<◌, ◌≤◌}
 use native.Mathlib.Omega.{arith}
 use mathlib.Core.Path.{◌≡◌, refl, sym, ◌∙◌, ap}
-use borrow.Author.Rules.{rules}
 use Rattle.basics.specs.Try.{Try, ok, refuse, ◌>>◌}
 use Rattle.basics.specs.Answers.{Fine, done}
 use Rattle.basics.specs.Capacity.{need_capacity}

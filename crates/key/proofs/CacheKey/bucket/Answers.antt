@@ -1,6 +1,6 @@
 -- SPDX-License-Identifier: Apache-2.0
 -- `CacheKey::bucket` meets its contract: two sums that wrap are one sum that wraps, of the file as `rotate_left_5` turns it. Assumes nothing.
-use Rattle.std.proofs.Common.{◌≡◌, ℕ, ◌+◌, ◌%◌, ◌^◌, ap, ◌∙◌, rules}
+use Rattle.std.proofs.Common.{◌≡◌, ℕ, ◌+◌, ◌%◌, ◌^◌, ap, ◌∙◌}
 use native.Mathlib.Nat.{mod-add-mod, mod-zero}
 use Rattle.key.specs.declared.CacheKey.{CacheKey}
 use Rattle.key.specs.Bucket.{rotated, sum_of, bucket_of}

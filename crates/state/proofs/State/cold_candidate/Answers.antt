@@ -3,7 +3,6 @@
 use mathlib.Core.Path.{◌∙◌}
 use Rattle.basics.proofs.Tests.{tests, flag}
 use Rattle.state.specs.Reads.{cold_candidate}
-use borrow.Author.Rules.{rules}
 use Rattle.state.proofs.State.cold_candidate.Goals as goal
 
 pub returns-then-not-sound : goal.returns-then-not-sound

@@ -1,7 +1,6 @@
 -- SPDX-License-Identifier: Apache-2.0
 -- `State::try_new` meets its contract: the ends of the rule, from what the index and the heap told. Assumes nothing.
 use Rattle.state.proofs.Cases.{new_refused, new_made}
-use borrow.Author.Rules.{rules}
 use Rattle.state.proofs.State.try_new.Goals as goal
 
 pub returns-in-Refused : goal.returns-in-Refused
