@@ -1,6 +1,6 @@
 -- SPDX-License-Identifier: Apache-2.0
 -- Run sheets in bytes, and what is compared: what a sheet prints, and the table that it leaves.
-use Rattle.std.specs.Prelude.{ℕ, zero, suc, ◌+◌, ◌-◌, ◌*◌, ◌/◌, ◌%◌, Bool, true, false, ◌&&◌, List, [], ◌∷◌, ◌++◌, map, eqb, take}
+use Rattle.std.specs.Prelude.{ℕ, zero, suc, ◌-◌, ◌*◌, ◌/◌, ◌%◌, Bool, true, false, ◌&&◌, List, [], ◌∷◌, ◌++◌, map, eqb, take}
 use Rattle.std.proofs.Math.Option.{Option, none, some}
 use Rattle.basics.specs.Try.{Try, ok, refuse}
 use Rattle.eviction.specs.declared.Entry.{Entry}

@@ -1,6 +1,6 @@
 -- SPDX-License-Identifier: Apache-2.0
 -- The token places, and what a refused record leaves. Assumes nothing.
-use Prim.Native.Nat.{ℕ, ◌<◌}
+use Prim.Native.Nat.{ℕ}
 use native.Mathlib.Omega.{arith}
 use mathlib.Core.Path.{◌≡◌, refl, ap}
 use mathlib.Core.Bool.{Bool, true, false, not}
@@ -21,7 +21,6 @@ use Rattle.state.specs.Remove.{need_clean, remove}
 use Rattle.maintenance_resize.specs.Answers.{Size, unchanged, busy_now, resized}
 use Rattle.sheet_lines.specs.declared.Record.{Record}
 use Rattle.sheet_lines.specs.declared.Said.{Said}
-use Rattle.sheet_standing.specs.declared.Place.{Place}
 use Rattle.sheet_standing.specs.declared.Standing.{Standing}
 use Rattle.sheet_steps.specs.declared.Stepped.{Stepped}
 use Rattle.sheet_steps.specs.Standing.{with_state, place_at}
