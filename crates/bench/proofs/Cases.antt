@@ -1,16 +1,13 @@
 -- SPDX-License-Identifier: Apache-2.0
 -- A sheet one record after the other: a law for each call, from what the code knows of its answer. Assumes nothing.
-use Rattle.std.proofs.Common.{◌≡◌, ℕ, zero, suc, ◌+◌, ◌-◌, ◌*◌, ◌<◌, ◌≤◌, min, Bool, true, false, List, [], ◌∷◌, get_or, take, set, replicate, refl, ⊎_elim, arith, eq-eqb, ne_eqb}
+use Rattle.std.proofs.Common.{◌≡◌, ℕ, zero, suc, ◌+◌, ◌-◌, ◌*◌, ◌<◌, ◌≤◌, min, Bool, true, false, List, get_or, take, set, replicate, refl, arith, eq-eqb, ne_eqb}
 use mathlib.Core.Option.{Option}
-use types.Run.{OneOf}
-use denote.Enum.Declared.{tag_of}
 use Rattle.basics.specs.Numbers.{NONE}
 use Rattle.basics.specs.Answers.{Fine}
 use Rattle.basics.proofs.Tests.{one_less_lem}
 use Rattle.state.specs.declared.State.{State}
 use Rattle.state.specs.declared.LoadToken.{LoadToken}
 use Rattle.state.specs.declared.Access.{Access}
-use Rattle.state.specs.contracts.Access as the-access
 use Rattle.state.specs.Answers.{Given, After, access_answer}
 use Rattle.state.specs.Fresh.{new}
 use Rattle.state.specs.Access.{access}

@@ -41,7 +41,6 @@ use Rattle.maintenance_restore.specs.Pins.{pin_count, pins_clean, raised}
 use Rattle.maintenance_restore.specs.Restore.{restore_into, restore, and_on, restore_pinned, or_else, candidate}
 use Rattle.maintenance_restore.specs.Parts.{Put, put_into, put, top_put, placed_answer, fit_answer, restored_answer}
 use Rattle.basics.specs.Answers.{Fine}
-use Rattle.eviction.specs.Entries.{at}
 use Rattle.state.specs.declared.Finished.{Finished}
 use Rattle.state.specs.Answers.{After, finished_after}
 use Rattle.state.specs.Fresh.{fresh, new}

@@ -1,31 +1,28 @@
 -- SPDX-License-Identifier: Apache-2.0
 -- The ends of access and resize through the gate, each as an equation on plain variables. Assumes nothing.
-use Prim.Native.Nat.{ℕ, ◌+◌, ◌<◌, ◌≤◌}
+use Prim.Native.Nat.{ℕ, ◌<◌, ◌≤◌}
 use mathlib.Core.Path.{◌≡◌, refl, sym, ap, ◌∙◌}
-use mathlib.Core.Bool.{Bool, true, false, not, ◌&&◌}
+use mathlib.Core.Bool.{Bool, true, false}
 use mathlib.Core.List.{List}
-use lib.Dec.{eqb, ltb}
 use lib.ListN.{length}
-use borrow.Author.Tests.{eq-eqb, ne_eqb, lt-ltb, le-ltb, not-true, not-false}
-use Rattle.basics.specs.Try.{Try, ok, refuse}
+use borrow.Author.Tests.{eq-eqb, ne_eqb, lt-ltb, le-ltb}
+use Rattle.basics.specs.Try.{ok, refuse}
 use Rattle.basics.specs.Refusals.{STOP, PINS, LIST, EXHAUSTED}
 use Rattle.basics.specs.Numbers.{MAX}
-use Rattle.basics.specs.Answers.{Fine, done, done_answer}
+use Rattle.basics.specs.Answers.{done}
 use Rattle.basics.specs.Capacity.{need_capacity}
-use Rattle.basics.specs.declared.Done.{Done}
 use Rattle.key.specs.declared.CacheKey.{CacheKey}
 use Rattle.state.specs.declared.State.{State}
 use Rattle.state.specs.Answers.{Given, After}
 use Rattle.state.specs.Access.{access}
-use Rattle.state.specs.Fresh.{sound}
 use Rattle.maintenance_resize.specs.declared.Maintenance.{Maintenance}
 use Rattle.maintenance_resize.specs.declared.Maintained.{Maintained}
-use Rattle.maintenance_resize.specs.Answers.{Size, unchanged, busy_now, resized, Resizing, size_answer, maintained_after}
+use Rattle.maintenance_resize.specs.Answers.{unchanged, busy_now, Resizing, size_answer, maintained_after}
 use Rattle.maintenance_resize.specs.Resize.{resize}
 use Rattle.gate.specs.declared.Gate.{Gate}
-use Rattle.gate.specs.Gate.{gate_of, admits, stops, marked, counted}
+use Rattle.gate.specs.Gate.{admits, stops, marked, counted}
 use Rattle.passage.specs.Access.{access_through}
-use Rattle.passage.specs.Resize.{Passing, passing_of, need_input_of, need_input, attempted, attempt_rule, stays, pass_steps, or_refused, resize_through}
+use Rattle.passage.specs.Resize.{passing_of, need_input_of, need_input, attempted, attempt_rule, stays, pass_steps, resize_through}
 
 -- ── access ──
 pub accesses :

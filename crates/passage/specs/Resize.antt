@@ -1,7 +1,7 @@
 -- SPDX-License-Identifier: Apache-2.0
 -- Resize through the gate.
 use Rattle.std.specs.Prelude.{ℕ, Bool, true, false, List, ltb, eqb, length}
-use Rattle.basics.specs.Try.{Try, ok, refuse, ◌>>=◌, ◌>>◌, if◌then◌else◌, need}
+use Rattle.basics.specs.Try.{Try, ok, refuse, ◌>>◌, if◌then◌else◌, need}
 use Rattle.basics.specs.Answers.{Fine, done}
 use Rattle.basics.specs.Refusals.{STOP, PINS, LIST, EXHAUSTED}
 use Rattle.basics.specs.Numbers.{MAX}
@@ -9,7 +9,7 @@ use Rattle.basics.specs.Capacity.{need_capacity}
 use Rattle.state.specs.declared.State.{State}
 use Rattle.state.specs.Fresh.{sound}
 use Rattle.maintenance_resize.specs.Answers.{Size, unchanged, busy_now, resized, Resizing, size_answer}
-use Rattle.maintenance_resize.specs.Resize.{listed, resize}
+use Rattle.maintenance_resize.specs.Resize.{resize}
 use Rattle.gate.specs.declared.Gate.{Gate}
 use Rattle.passage.specs.declared.Passed.{Passed}
 use Rattle.gate.specs.Gate.{stops, marked, counted}

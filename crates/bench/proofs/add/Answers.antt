@@ -1,7 +1,6 @@
 -- SPDX-License-Identifier: Apache-2.0
 -- `bench::add` meets its contract. Assumes nothing.
 use Rattle.bench.specs.Sum.{plus}
-use Rattle.std.proofs.Common.{rules}
 use Rattle.bench.proofs.add.Goals as goal
 
 pub returns : goal.returns

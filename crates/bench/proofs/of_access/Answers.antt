@@ -1,7 +1,6 @@
 -- SPDX-License-Identifier: Apache-2.0
 -- `bench::of_access` meets its contract. Assumes nothing.
 use Rattle.bench.specs.Sum.{access_number}
-use Rattle.std.proofs.Common.{rules}
 use Rattle.bench.proofs.of_access.Goals as goal
 
 pub returns-then-left : goal.returns-then-left

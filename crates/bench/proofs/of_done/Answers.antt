@@ -1,7 +1,6 @@
 -- SPDX-License-Identifier: Apache-2.0
 -- `bench::of_done` meets its contract. Assumes nothing.
 use Rattle.bench.specs.Sum.{done_number}
-use Rattle.std.proofs.Common.{rules}
 use Rattle.bench.proofs.of_done.Goals as goal
 
 pub returns-in-Done : goal.returns-in-Done

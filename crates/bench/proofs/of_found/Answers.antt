@@ -1,7 +1,6 @@
 -- SPDX-License-Identifier: Apache-2.0
 -- `bench::of_found` meets its contract. Assumes nothing.
 use Rattle.bench.specs.Sum.{found_number}
-use Rattle.std.proofs.Common.{rules}
 use Rattle.bench.proofs.of_found.Goals as goal
 
 pub returns-in-At : goal.returns-in-At

@@ -1,7 +1,6 @@
 -- SPDX-License-Identifier: Apache-2.0
 -- `bench::of_maintenance` meets its contract. Assumes nothing.
 use Rattle.bench.specs.Sum.{size_number}
-use Rattle.std.proofs.Common.{rules}
 use Rattle.bench.proofs.of_maintenance.Goals as goal
 
 pub returns-in-Unchanged : goal.returns-in-Unchanged

@@ -2,7 +2,6 @@
 -- `maintenance_reclaim::reclaim` meets its contract. Assumes nothing.
 use mathlib.Core.Path.{◌∙◌}
 use native.Mathlib.Omega.{arith}
-use borrow.Author.Rules.{rules}
 use Rattle.basics.proofs.Tests.{flag}
 use Rattle.maintenance_reclaim.proofs.Reclaims.{reclaim_unsound, reclaim_unpinned, reclaim_few, reclaim_most}
 use Rattle.maintenance_reclaim.proofs.reclaim.Goals as goal

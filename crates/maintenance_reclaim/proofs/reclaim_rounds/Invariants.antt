@@ -2,17 +2,11 @@
 -- `maintenance_reclaim::reclaim_rounds` meets its contract: what is left to do is in the rounds left, and the table passes its first test throughout.
 -- Assumes nothing.
 use Prim.Native.Nat.{◌+◌, ◌≤◌}
-use mathlib.Core.Path.{◌≡◌, refl, sym, ◌∙◌, ap}
+use mathlib.Core.Path.{◌≡◌}
 use mathlib.Core.Bool.{true}
-use native.Mathlib.Omega.{arith}
-use borrow.Author.Rules.{rules}
 use Rattle.state.specs.Fresh.{sound}
-use Rattle.state_choice.proofs.Cases.{chosen_told}
-use Rattle.maintenance_reclaim.specs.Reclaim.{no_slots, reclaim_from, unless_refused}
-use Rattle.state_remove.proofs.Kept.{remove_keeps}
-use Rattle.state_remove.proofs.Told.{remove_told}
-use Rattle.maintenance_reclaim.proofs.Reclaims.{taken, victim_low, rounds_end, round_refused, round_none, round_unclean, round_stops, round_on}
-use Rattle.maintenance_reclaim.proofs.Reclaims.{stopped_back}
+use Rattle.maintenance_reclaim.specs.Reclaim.{no_slots, reclaim_from}
+use Rattle.maintenance_reclaim.proofs.Reclaims.{taken}
 use Rattle.maintenance_reclaim.proofs.reclaim_rounds.Given as goal
 
 abbrev pub invariant-loop-left : goal.invariant-loop-left

@@ -2,7 +2,6 @@
 -- `maintenance_resize::resize` meets its contract. Assumes nothing.
 use mathlib.Core.Path.{◌∙◌}
 use native.Mathlib.Omega.{arith}
-use borrow.Author.Rules.{rules}
 use Rattle.basics.proofs.Tests.{flag}
 use Rattle.basics.proofs.Capacities.{capacity_fits}
 use Rattle.state.proofs.Cases.{sound_sizes_lem}

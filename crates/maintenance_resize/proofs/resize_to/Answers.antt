@@ -2,7 +2,6 @@
 -- `maintenance_resize::resize_to` meets its contract. Assumes nothing.
 use mathlib.Core.Path.{sym, ◌∙◌, ap}
 use native.Mathlib.Omega.{arith}
-use borrow.Author.Rules.{rules}
 use Rattle.basics.proofs.Tests.{flag}
 use Rattle.state.proofs.Cases.{sound_sizes_lem}
 use Rattle.maintenance_resize.specs.Resize.{unless_refused}

@@ -1,11 +1,9 @@
 -- SPDX-License-Identifier: Apache-2.0
 -- `maintenance_resize::write_list` meets its contract: the list is written as far as place i, and as it was from there on. Assumes nothing.
-use Prim.Native.Nat.{◌+◌, ◌-◌, ◌≤◌, ◌<◌}
-use mathlib.Core.Path.{◌≡◌, refl}
-use mathlib.Core.List.{◌++◌}
+use Prim.Native.Nat.{◌<◌}
+use mathlib.Core.Path.{refl}
 use native.Mathlib.Omega.{arith}
-use lib.ListN.{length, take, drop, length-set}
-use borrow.Author.Rules.{rules}
+use lib.ListN.{length, length-set}
 use Rattle.maintenance_resize.proofs.Resizes.{write_turn, written_all}
 use Rattle.maintenance_resize.proofs.write_list.Goals as goal
 

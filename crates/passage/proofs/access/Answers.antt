@@ -1,7 +1,6 @@
 -- SPDX-License-Identifier: Apache-2.0
 -- `passage::access` meets its contract. Assumes nothing.
 use Rattle.passage.proofs.Cases.{accesses}
-use borrow.Author.Rules.{rules}
 use Rattle.passage.proofs.access.Goals as goal
 
 pub returns : goal.returns

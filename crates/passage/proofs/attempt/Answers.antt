@@ -1,7 +1,6 @@
 -- SPDX-License-Identifier: Apache-2.0
 -- `passage::attempt` meets its contract. Assumes nothing.
 use Rattle.passage.proofs.Cases.{attempt_is, attempt_refused, attempt_busy, attempt_unchanged, attempt_resized}
-use borrow.Author.Rules.{rules}
 use Rattle.passage.proofs.attempt.Goals as goal
 
 pub returns-in-Refused : goal.returns-in-Refused

@@ -3,7 +3,6 @@
 use Rattle.maintenance_resize.proofs.Resizes.{checked_told}
 use Rattle.passage.proofs.Cases.{input_unsound, input_unsized, input_unpinned, input_unlisted, input_fine}
 use Rattle.basics.proofs.Tests.{flag}
-use borrow.Author.Rules.{rules}
 use Rattle.passage.proofs.check_input.Goals as goal
 
 pub returns-then-not-sound : goal.returns-then-not-sound

@@ -3,7 +3,6 @@
 use Rattle.maintenance_resize.proofs.Resizes.{checked_told}
 use Rattle.passage.proofs.Cases.{through_refused, through_paused, through_dirty, through_same, through_loading, through_spent, through_on}
 use mathlib.Core.Path.{◌∙◌}
-use borrow.Author.Rules.{rules}
 use Rattle.passage.proofs.resize.Goals as goal
 
 pub returns-in-Refused : goal.returns-in-Refused

@@ -1,14 +1,8 @@
 -- SPDX-License-Identifier: Apache-2.0
 -- `remake::drop_oldest` meets its contract: what is left to do is in the rounds left, and the table passes its first test throughout. Assumes nothing.
-use Prim.Native.Nat.{ℕ, ◌-◌}
-use mathlib.Core.Path.{◌≡◌, refl, sym, ◌∙◌}
-use mathlib.Core.Bool.{true}
-use mathlib.Core.List.{List}
+use mathlib.Core.Path.{refl, sym, ◌∙◌}
 use borrow.Author.Rules.{rules}
-use Rattle.state.specs.declared.State.{State}
-use Rattle.state.specs.Fresh.{sound}
 use Rattle.state.proofs.Cases.{sound_sizes_lem}
-use Rattle.maintenance_resize.specs.Move.{moving_of, drop_oldest}
 use Rattle.state_remove.proofs.Kept.{remove_keeps}
 use Rattle.state_remove.proofs.Told.{remove_told}
 use Rattle.maintenance_resize.proofs.Moves.{drop_end, drop_fits, drop_none, drop_past, drop_unclean, drop_stops, drop_on}

@@ -1,21 +1,13 @@
 -- SPDX-License-Identifier: Apache-2.0
 -- `remake::leave_pinned` meets its contract: what is left to do is from the slot on, and the old table passes its first test throughout. Assumes nothing.
 use Prim.Native.Nat.{◌-◌}
-use mathlib.Core.Path.{◌≡◌, ◌∙◌}
+use mathlib.Core.Path.{◌≡◌}
 use mathlib.Core.Bool.{true}
-use native.Mathlib.Omega.{arith}
 use lib.ListN.{take, replicate}
-use lib.Seq.{take-set-lt}
-use borrow.Author.Rules.{rules}
 use Rattle.basics.specs.Numbers.{NONE}
 use Rattle.basics.specs.Lists.{each_slot}
 use Rattle.state.specs.Fresh.{sound}
-use Rattle.state.proofs.Cases.{sound_sizes_lem, found_told}
 use Rattle.maintenance_resize.specs.Move.{moving_of, leave_pinned}
-use Rattle.maintenance_restore.proofs.Cases.{all_left}
-use Rattle.state_remove.proofs.Kept.{detach_keeps}
-use Rattle.state_remove.proofs.Told.{detach_told}
-use Rattle.maintenance_resize.proofs.Moves.{take_same, each_end, each_on, each_stops, peek_low, leave_unclean, leave_refused, leave_absent, leave_stops, leave_left}
 use Rattle.maintenance_resize.proofs.remake.leave_pinned.Given as goal
 
 abbrev pub invariant-loop-slot : goal.invariant-loop-slot

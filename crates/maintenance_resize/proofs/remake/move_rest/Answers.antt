@@ -1,16 +1,10 @@
 -- SPDX-License-Identifier: Apache-2.0
 -- `remake::move_rest` meets its contract: what is left to do is from the slot on, and the old table passes its first test throughout. Assumes nothing.
-use Prim.Native.Nat.{◌-◌}
-use mathlib.Core.Path.{◌≡◌, ◌∙◌}
-use mathlib.Core.Bool.{true}
+use mathlib.Core.Path.{◌∙◌}
 use native.Mathlib.Omega.{arith}
-use lib.ListN.{take}
 use lib.Seq.{take-set-lt}
 use borrow.Author.Rules.{rules}
-use Rattle.basics.specs.Lists.{each_slot}
-use Rattle.state.specs.Fresh.{sound}
 use Rattle.state.proofs.Cases.{sound_sizes_lem, found_told}
-use Rattle.maintenance_resize.specs.Move.{moving_of, move_rest}
 use Rattle.maintenance_restore.proofs.Cases.{all_left}
 use Rattle.state_remove.proofs.Kept.{remove_keeps}
 use Rattle.state_remove.proofs.Told.{remove_told}

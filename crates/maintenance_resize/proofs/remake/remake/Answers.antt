@@ -1,7 +1,6 @@
 -- SPDX-License-Identifier: Apache-2.0
 -- `remake::remake` meets its contract. Assumes nothing.
 use mathlib.Core.Path.{◌∙◌}
-use borrow.Author.Rules.{rules}
 use Rattle.state.proofs.Cases.{sound_sizes_lem}
 use Rattle.maintenance_resize.proofs.Resizes.{remake_unleft, remake_undropped, remake_unfilled, remake_unmoved, remake_done}
 use Rattle.maintenance_resize.proofs.remake.remake.Goals as goal

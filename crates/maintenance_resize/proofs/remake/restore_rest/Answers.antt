@@ -1,12 +1,6 @@
 -- SPDX-License-Identifier: Apache-2.0
 -- `remake::restore_rest` meets its contract: what is left to do is from the slot on. Assumes nothing.
-use Prim.Native.Nat.{ℕ, ◌-◌}
-use mathlib.Core.Path.{◌≡◌}
-use mathlib.Core.List.{List}
-use borrow.Author.Rules.{rules}
-use Rattle.basics.specs.Lists.{each_slot}
 use Rattle.state.proofs.Cases.{found_told}
-use Rattle.maintenance_resize.specs.Move.{moving_of, restore_rest}
 use Rattle.maintenance_restore.proofs.Cases.{all_left, restored_told}
 use Rattle.maintenance_resize.proofs.Moves.{each_end, each_on, each_stops, rest_unclean, rest_refused, rest_stops, rest_full, rest_restored, rest_there}
 use Rattle.maintenance_resize.proofs.remake.restore_rest.Goals as goal

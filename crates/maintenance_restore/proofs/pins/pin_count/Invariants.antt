@@ -2,13 +2,8 @@
 -- `pins::pin_count` meets its contract: the loop has counted the pins before place i. Assumes nothing.
 use Prim.Native.Nat.{◌+◌, ◌-◌, ◌≤◌}
 use mathlib.Core.Path.{◌≡◌}
-use mathlib.Core.Logic.{⊎_elim}
-use native.Mathlib.Omega.{arith}
 use lib.ListN.{length, drop}
-use borrow.Author.Rules.{rules}
-use borrow.Author.Tests.{eq-eqb, ne_eqb}
 use Rattle.maintenance_restore.specs.Pins.{pin_count}
-use Rattle.maintenance_restore.proofs.Cases.{pins_step, pins_end}
 use Rattle.maintenance_restore.proofs.pins.pin_count.Given as goal
 
 abbrev pub invariant-loop-i : goal.invariant-loop-i

@@ -1,11 +1,7 @@
 -- SPDX-License-Identifier: Apache-2.0
 -- `pins::pins_clean` meets its contract: what is left to test is from the slot on. Assumes nothing.
-use Prim.Native.Nat.{◌-◌, ◌≤◌}
-use mathlib.Core.Path.{◌≡◌}
 use native.Mathlib.Omega.{arith}
-use borrow.Author.Rules.{rules}
 use borrow.Author.Tests.{eq-eqb, ne_eqb}
-use Rattle.maintenance_restore.specs.Pins.{pins_clean}
 use Rattle.maintenance_restore.proofs.Cases.{all_left, clean_step, clean_end}
 use Rattle.maintenance_restore.proofs.pins.pins_clean.Goals as goal
 

@@ -1,6 +1,5 @@
 -- SPDX-License-Identifier: Apache-2.0
 -- `pins::power_over` meets its contract. Assumes nothing.
-use borrow.Author.Rules.{rules}
 use Rattle.maintenance_restore.proofs.Cases.{power_one, power_half}
 use Rattle.maintenance_restore.proofs.pins.power_over.Goals as goal
 

@@ -1,7 +1,6 @@
 -- SPDX-License-Identifier: Apache-2.0
 -- `pins::raised` meets its contract. Assumes nothing.
 use native.Mathlib.Omega.{arith}
-use borrow.Author.Rules.{rules}
 use Rattle.maintenance_restore.proofs.Cases.{raised_up, raised_not}
 use Rattle.maintenance_restore.proofs.pins.raised.Goals as goal
 

@@ -1,13 +1,8 @@
 -- SPDX-License-Identifier: Apache-2.0
 -- `restore::candidate` meets its contract: what is left to do is from the size on, in the rounds left. Assumes nothing.
 use Prim.Native.Nat.{◌≤◌, ◌<◌}
-use mathlib.Core.Path.{◌≡◌, refl, sym, ◌∙◌}
-use native.Mathlib.Omega.{arith}
-use borrow.Author.Rules.{rules}
-use borrow.Author.Tests.{not-true, not-false}
+use mathlib.Core.Path.{◌≡◌}
 use Rattle.maintenance_restore.specs.Restore.{candidate}
-use Rattle.maintenance_restore.proofs.Cases.{restored_told, made_fresh, candidate_fits, candidate_stops}
-use Rattle.maintenance_restore.proofs.Cases.{candidate_grows, candidate_half, candidate_twice, candidate_end}
 use Rattle.maintenance_restore.proofs.restore.candidate.Given as goal
 
 abbrev pub invariant-loop-left : goal.invariant-loop-left

@@ -1,6 +1,5 @@
 -- SPDX-License-Identifier: Apache-2.0
 -- `restore::place` meets its contract. Assumes nothing.
-use borrow.Author.Rules.{rules}
 use Rattle.maintenance_restore.specs.Parts.{put_into, put}
 use Rattle.maintenance_restore.proofs.restore.place.Goals as goal
 

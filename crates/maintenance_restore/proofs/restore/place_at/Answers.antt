@@ -1,6 +1,5 @@
 -- SPDX-License-Identifier: Apache-2.0
 -- `restore::place_at` meets its contract. Assumes nothing.
-use borrow.Author.Rules.{rules}
 use Rattle.index.specs.Chain.{insert_index}
 use Rattle.index.specs.Free.{take_vacant}
 use Rattle.index.proofs.Cases.{moved_back}

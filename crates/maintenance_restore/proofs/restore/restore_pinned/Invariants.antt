@@ -2,11 +2,7 @@
 -- `restore::restore_pinned` meets its contract: what is left to restore is from the slot on. Assumes nothing.
 use Prim.Native.Nat.{◌-◌, ◌≤◌}
 use mathlib.Core.Path.{◌≡◌}
-use native.Mathlib.Omega.{arith}
-use borrow.Author.Rules.{rules}
-use borrow.Author.Tests.{eq-eqb, ne_eqb}
 use Rattle.maintenance_restore.specs.Restore.{restore_pinned}
-use Rattle.maintenance_restore.proofs.Cases.{all_left, restored_told, pinned_step, pinned_end}
 use Rattle.maintenance_restore.proofs.restore.restore_pinned.Given as goal
 
 abbrev pub invariant-loop-slot : goal.invariant-loop-slot
