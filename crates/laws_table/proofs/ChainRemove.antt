@@ -60,32 +60,37 @@ before_in x z (there {b = w} {l = ws} m) = elim (is (eqb w x)) [ yes! e ↦ rw e
 preceding_in : (z x : ℕ) {zs : List ℕ} → In x zs → In (preceding z x zs) (z ∷ zs)
 preceding_in z x {zs} m = before_in x z m
 
+-- the same slots with the slot before x and the list under other names: `rw` does not reach them below `Linked`
 moved : (next : List ℕ) (c s x : ℕ) {p q : ℕ} {xs ys : List ℕ} {y : ℕ} → q ≡ p → ys ≡ xs
     → Linked (set (set next q (get_or next x 0)) x NONE) c s (y ∷ ys) → Linked (set (set next p (get_or next x 0)) x NONE) c s (y ∷ xs)
 moved next c s x {p} {q} {xs} {ys} {y} e f h =
     subst (λ (z : ℕ). Linked (set (set next z (get_or next x 0)) x NONE) c s (y ∷ xs)) e
     (subst (λ (w : List ℕ). Linked (set (set next q (get_or next x 0)) x NONE) c s (y ∷ w)) f h)
 
--- x is not the first: the slot before it is turned past it
 cut_past : (next : List ℕ) (c x s y : ℕ) (xs : List ℕ) → c ≤ length next → Once (y ∷ xs) → Linked next c s (y ∷ xs) → In x xs
     → Linked (set (set next (preceding y x xs) (get_or next x 0)) x NONE) c s (y ∷ cut x xs)
 unfolding preceding cut
 cut_past next c x s y xs hc o h (here {l = zs}) =
+    let n : ℕ = get_or next x 0 in
     let p : preceding y x (x ∷ zs) ≡ y = rw (eq-eqb x x refl) in
     let k : cut x (x ∷ zs) ≡ zs = rw (eq-eqb x x refl) in
-    let rest : Linked (set (set next y (get_or next x 0)) x NONE) c (get_or (set (set next y (get_or next x 0)) x NONE) y 0) zs =
-    rw (get_or-set_other (set next y (get_or next x 0)) x y NONE 0 o.0.0, get_or-set_same next y (get_or next x 0) 0 (omega arith))
-    (linked_set (set next y (get_or next x 0)) c (get_or next x 0) zs x NONE o.1.0 (linked_set next c (get_or next x 0) zs y (get_or next x 0) o.0.1 h.2.2)) in
+    let turned : Linked (set next y n) c n zs = linked_set next c n zs y n o.0.1 h.2.2 in
+    let rest : Linked (set (set next y n) x NONE) c (get_or (set (set next y n) x NONE) y 0) zs =
+    rw (get_or-set_other (set next y n) x y NONE 0 o.0.0, get_or-set_same next y n 0 (omega arith))
+    (linked_set (set next y n) c n zs x NONE o.1.0 turned) in
     moved next c s x (sym p) (sym k) (h.0, h.1, rest)
 cut_past next c x s y xs hc o h (there {b = z} {l = zs} m) =
-    let p : preceding y x (z ∷ zs) ≡ preceding z x zs = rw (ne_eqb z x (not_in o.1.0 m)) in
-    let k : cut x (z ∷ zs) ≡ z ∷ cut x zs = rw (ne_eqb z x (not_in o.1.0 m)) in
-    let next' : List ℕ = set (set next (preceding z x zs) (get_or next x 0)) x NONE in
-    let rest : Linked next' c (get_or next' y 0) (z ∷ cut x zs) =
-    rw (get_or-set_other (set next (preceding z x zs) (get_or next x 0)) x y NONE 0 (not_in o.0 (there m)), get_or-set_other next (preceding z x zs) y (get_or next x 0) 0 (not_in o.0 (preceding_in z x m)))
+    let n : ℕ = get_or next x 0 in
+    let w : ℕ = preceding z x zs in
+    let e : eqb z x ≡ false = ne_eqb z x (not_in o.1.0 m) in
+    let p : preceding y x (z ∷ zs) ≡ w = rw e in
+    let k : cut x (z ∷ zs) ≡ z ∷ cut x zs = rw e in
+    let rest : Linked (set (set next w n) x NONE) c (get_or (set (set next w n) x NONE) y 0) (z ∷ cut x zs) =
+    rw (get_or-set_other (set next w n) x y NONE 0 (not_in o.0 (there m)), get_or-set_other next w y n 0 (not_in o.0 (preceding_in z x m)))
     (cut_past next c x (get_or next y 0) z zs hc o.1 h.2 m) in
     moved next c s x (sym p) (sym k) (h.0, h.1, rest)
 
+-- x is not the first: the slot before it is turned past it
 cut_later : (next : List ℕ) (c s x y : ℕ) (xs : List ℕ) → c ≤ length next → Once (y ∷ xs) → Linked next c s (y ∷ xs) → In x xs
     → Linked (set (set next (preceding y x xs) (get_or next x 0)) x NONE) c s (y ∷ cut x xs)
 cut_later next c s x y xs hc o h m = cut_past next c x s y xs hc o h m
