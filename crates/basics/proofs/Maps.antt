@@ -1,10 +1,10 @@
 -- SPDX-License-Identifier: Apache-2.0
 -- Maps from a slot: one place anew. Assumes nothing.
+use Rattle.std.proofs.Common.{if◌then◌else◌}
 use Prim.Native.Nat.{ℕ}
 use mathlib.Core.Path.{◌≡◌, refl, sym, fun_ext}
 use lib.Dec.{eqb}
 use borrow.Author.Tests.{eqb-true, eq-eqb, ne_eqb}
-use Rattle.basics.specs.Try.{if◌then◌else◌}
 use Rattle.basics.proofs.Tests.{yes!, no!, is}
 
 -- the map with a at x

@@ -1,5 +1,6 @@
 -- SPDX-License-Identifier: Apache-2.0
 -- Laws on `In` and `Once`: a slot taken out of a list, and a list mapped. Assumes nothing.
+use Rattle.std.proofs.Common.{if◌then◌else◌}
 use Prim.Native.Nat.{ℕ, zero, suc, ◌-◌, ◌<◌, ◌≤◌}
 use native.Mathlib.Omega.{arith}
 use mathlib.Core.Path.{◌≡◌, refl, sym, ap, ◌∙◌}
@@ -7,7 +8,6 @@ use mathlib.Core.List.{List, [], ◌∷◌, map}
 use lib.Dec.{eqb}
 use lib.ListN.{length, get_or}
 use borrow.Author.Tests.{eqb-true, eqb-false, eq-eqb, ne_eqb}
-use Rattle.basics.specs.Try.{if◌then◌else◌}
 use Rattle.basics.specs.Lists.{down}
 use Rattle.basics.specs.Members.{In, here, there, NotIn, Once}
 use Rattle.basics.proofs.Tests.{yes!, no!, is}

@@ -1,9 +1,9 @@
 -- SPDX-License-Identifier: Apache-2.0
 -- A run sheet through the rules of the calls that are timed, and the checksum of all that they answer. Loads are always allowed, no slot is
 -- pinned, and no record is refused as bad.
-use Rattle.std.specs.Prelude.{ℕ, zero, suc, ◌+◌, ◌/◌, ◌%◌, min, true, List, length, take, replicate, ◌==◌, slice_index, slice_index_or, slice_set}
+use Rattle.std.specs.Prelude.{ℕ, zero, suc, ◌+◌, ◌/◌, ◌%◌, min, true, List, length, take, replicate, ◌==◌, slice_index, slice_index_or, slice_set, if◌then◌else◌}
 use Rattle.std.proofs.Math.Option.{Option}
-use Rattle.basics.specs.Try.{Try, ok, refuse, if◌then◌else◌}
+use Rattle.basics.specs.Try.{Try, ok, refuse}
 use Rattle.basics.specs.Numbers.{NONE}
 use Rattle.basics.specs.Answers.{Fine}
 use Rattle.key.specs.declared.CacheKey.{CacheKey}

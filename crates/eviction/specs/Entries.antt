@@ -1,7 +1,7 @@
 -- SPDX-License-Identifier: Apache-2.0
 -- "A binary heap of (last use, slot) with the place of each slot."
-use Rattle.std.specs.Prelude.{ℕ, ◌-◌, Bool, true, false, ◌&&◌, List, ◌++◌, ltb, leb, get_or, replicate}
-use Rattle.basics.specs.Try.{Try, ok, ◌>>◌, if◌then◌else◌}
+use Rattle.std.specs.Prelude.{ℕ, ◌-◌, Bool, true, false, ◌&&◌, List, ◌++◌, ltb, leb, get_or, replicate, if◌then◌else◌}
+use Rattle.basics.specs.Try.{Try, ok, ◌>>◌}
 use Rattle.basics.specs.Numbers.{NONE}
 use Rattle.basics.specs.Capacity.{need_capacity}
 use Rattle.eviction.specs.declared.Entry.{Entry}

@@ -1,7 +1,7 @@
 -- SPDX-License-Identifier: Apache-2.0
 -- `insert`, `touch` and `remove` of the heap. `c` is the capacity.
-use Rattle.std.specs.Prelude.{ℕ, ◌+◌, ◌-◌, ◌&&◌, ltb, eqb, set}
-use Rattle.basics.specs.Try.{Try, ok, ◌>>=◌, ◌>>◌, if◌then◌else◌, need}
+use Rattle.std.specs.Prelude.{ℕ, ◌+◌, ◌-◌, ◌&&◌, ltb, eqb, set, if◌then◌else◌}
+use Rattle.basics.specs.Try.{Try, ok, ◌>>=◌, ◌>>◌, need}
 use Rattle.basics.specs.Refusals.{STOP}
 use Rattle.basics.specs.Numbers.{NONE}
 use Rattle.eviction.specs.declared.Entry.{Entry}

@@ -1,8 +1,8 @@
 -- SPDX-License-Identifier: Apache-2.0
 -- The heap's places, read: `oldest`, `candidate`, and "the first unpinned slot among the first min(clean, 64) heap places". `c` is the capacity.
-use Rattle.std.specs.Prelude.{ℕ, zero, suc, ◌+◌, Bool, List, ltb, leb, eqb, length, get_or}
+use Rattle.std.specs.Prelude.{ℕ, zero, suc, ◌+◌, Bool, List, ltb, leb, eqb, length, get_or, if◌then◌else◌}
 use Rattle.std.proofs.Math.Option.{Option, none, some}
-use Rattle.basics.specs.Try.{Try, ok, refuse, ◌>>◌, if◌then◌else◌, need}
+use Rattle.basics.specs.Try.{Try, ok, refuse, ◌>>◌, need}
 use Rattle.basics.specs.Refusals.{STOP, PINS}
 use Rattle.eviction.specs.declared.EvictionHeap.{EvictionHeap}
 use Rattle.eviction.specs.Entries.{at, sized}

@@ -1,5 +1,6 @@
 -- SPDX-License-Identifier: Apache-2.0
 -- What the proofs of the sifts share: where an entry goes, and the sifts one step on. Assumes nothing.
+use Rattle.std.proofs.Common.{if◌then◌else◌}
 use Prim.Native.Nat.{ℕ, zero, suc, ◌+◌, ◌-◌, ◌*◌, ◌/◌, ◌≤◌, ◌<◌}
 use mathlib.Core.Path.{◌≡◌, refl, sym, ◌∙◌}
 use mathlib.Core.Bool.{true, false}
@@ -7,7 +8,7 @@ use native.Mathlib.Omega.{arith}
 use lib.Dec.{leb, eqb}
 use lib.ListN.{set}
 use borrow.Author.Tests.{lt-ltb, le-ltb, le-leb, lt-leb, eq-eqb, ne_eqb}
-use Rattle.basics.specs.Try.{ok, refuse, ◌>>=◌, if◌then◌else◌}
+use Rattle.basics.specs.Try.{ok, refuse, ◌>>=◌}
 use Rattle.basics.specs.Refusals.{STOP}
 use Rattle.basics.proofs.Tests.{yes!, no!, is, false_true, one_less_lem}
 use Rattle.eviction.specs.declared.Entry.{Entry}

@@ -6,8 +6,8 @@
 // what the sifts require.
 #![tactic(auto)]
 
-ghost use Rattle.std.specs.Prelude.{◌≡◌, ◌+◌, ◌-◌, ◌*◌, ◌/◌, ◌≤◌, ◌<◌, leb};
-ghost use Rattle.basics.specs.Try.{refuse, if◌then◌else◌};
+ghost use Rattle.std.specs.Prelude.{◌≡◌, ◌+◌, ◌-◌, ◌*◌, ◌/◌, ◌≤◌, ◌<◌, leb, if◌then◌else◌};
+ghost use Rattle.basics.specs.Try.{refuse};
 ghost use Rattle.eviction.specs.Answers.{moved_of, try_moved};
 ghost use Rattle.eviction.specs.Entries.{older};
 ghost use Rattle.eviction.specs.Sift.{sift_up, sift_down};

@@ -1,7 +1,7 @@
 -- SPDX-License-Identifier: Apache-2.0
 -- Machines that cheat at the gate, each in one way. That the claim fails of them is proved in proofs/Cheats.antt.
-use Rattle.std.specs.Prelude.{false, ◌&&◌, eqb}
-use Rattle.basics.specs.Try.{refuse, if◌then◌else◌}
+use Rattle.std.specs.Prelude.{false, ◌&&◌, eqb, if◌then◌else◌}
+use Rattle.basics.specs.Try.{refuse}
 use Rattle.basics.specs.Refusals.{FULL}
 use Rattle.gate.specs.Gate.{marked}
 use Rattle.passage.specs.Access.{access_through}

@@ -1,8 +1,8 @@
 -- SPDX-License-Identifier: Apache-2.0
 -- Demand 3 under the gate, of any machine.
-use Rattle.std.specs.Prelude.{ℕ, ◌<◌, ◌≤◌, ◌≡◌, Bool, true, not, ◌&&◌, List, [], ◌∷◌, ltb, eqb, T}
+use Rattle.std.specs.Prelude.{ℕ, ◌<◌, ◌≤◌, ◌≡◌, Bool, true, not, ◌&&◌, List, [], ◌∷◌, ltb, eqb, T, if◌then◌else◌}
 use Rattle.std.proofs.Math.Option.{some}
-use Rattle.basics.specs.Try.{Try, ok, refuse, if◌then◌else◌}
+use Rattle.basics.specs.Try.{Try, ok, refuse}
 use Rattle.basics.specs.Refusals.{STALE, FULL, EMPTY}
 use Rattle.basics.specs.Numbers.{MAX}
 use Rattle.basics.specs.Answers.{Fine, done}

@@ -1,7 +1,7 @@
 -- SPDX-License-Identifier: Apache-2.0
 -- The ledger under the gate: document 01's, with pauses, dirty pages and the mark "told from the calls and answers".
-use Rattle.std.specs.Prelude.{ℕ, ◌+◌, ◌-◌, Bool, true, false, not, ◌&&◌, List, [], ◌∷◌, eqb}
-use Rattle.basics.specs.Try.{Try, ok, refuse, if◌then◌else◌}
+use Rattle.std.specs.Prelude.{ℕ, ◌+◌, ◌-◌, Bool, true, false, not, ◌&&◌, List, [], ◌∷◌, eqb, if◌then◌else◌}
+use Rattle.basics.specs.Try.{Try, ok, refuse}
 use Rattle.basics.specs.Refusals.{EXHAUSTED}
 use Rattle.basics.specs.Lists.{some?}
 use Rattle.basics.specs.Answers.{Fine, done}

@@ -1,5 +1,6 @@
 -- SPDX-License-Identifier: Apache-2.0
 -- Pin bytes: how many are pinned from a slot on, the capacity raised for them, and that pins are on clean slots. Assumes nothing.
+use Rattle.std.proofs.Common.{if◌then◌else◌}
 use Prim.Native.Nat.{ℕ, zero, suc, ◌+◌, ◌<◌, ◌≤◌, max}
 use native.Mathlib.Omega.{arith}
 use native.Mathlib.Numerals.{add-one}
@@ -10,7 +11,6 @@ use lib.Dec.{eqb}
 use lib.ListN.{length, drop}
 use lib.Seq.{drop-cons}
 use borrow.Author.Tests.{eqb-true, eqb-false}
-use Rattle.basics.specs.Try.{if◌then◌else◌}
 use Rattle.basics.specs.Numbers.{power_over}
 use Rattle.basics.proofs.Tests.{yes!, no!, is, and_left, and_right}
 use Rattle.eviction.specs.Victim.{unpinned}

@@ -1,5 +1,6 @@
 -- SPDX-License-Identifier: Apache-2.0
 -- The token places, and what a refused record leaves. Assumes nothing.
+use Rattle.std.proofs.Common.{if◌then◌else◌}
 use Prim.Native.Nat.{ℕ}
 use native.Mathlib.Omega.{arith}
 use mathlib.Core.Path.{◌≡◌, refl, ap}
@@ -9,7 +10,7 @@ use mathlib.Core.Logic.{inl, inr}
 use mathlib.Core.Option.{Option, none, some}
 use lib.Dec.{eqb}
 use borrow.Author.Tests.{eq-eqb, ne_eqb}
-use Rattle.basics.specs.Try.{Try, ok, refuse, if◌then◌else◌}
+use Rattle.basics.specs.Try.{Try, ok, refuse}
 use Rattle.basics.specs.Answers.{Fine, done}
 use Rattle.basics.proofs.Tests.{is, yes!, no! }
 use Rattle.state.specs.declared.State.{State}

@@ -1,5 +1,6 @@
 -- SPDX-License-Identifier: Apache-2.0
 -- What stands between two records of a sheet is in order, whatever the bytes; and what its lines show. Assumes nothing.
+use Rattle.std.proofs.Common.{if◌then◌else◌}
 use Prim.Native.Nat.{ℕ, zero, suc, ◌+◌, ◌-◌, ◌*◌, ◌≤◌, ◌<◌}
 use native.Mathlib.Omega.{arith}
 use mathlib.Core.Path.{◌≡◌, refl, sym, ◌∙◌, subst}
@@ -9,7 +10,6 @@ use mathlib.Core.Logic.{◌⊎◌, inl, inr}
 use lib.Dec.{eqb}
 use lib.ListN.{length, drop, length-drop}
 use borrow.Author.Tests.{eqb-true, eqb-false, lt-leb, leb-true}
-use Rattle.basics.specs.Try.{if◌then◌else◌}
 use Rattle.basics.specs.Lists.{some?}
 use Rattle.basics.specs.Numbers.{MAX}
 use Rattle.basics.specs.Refusals.{PINS, LIST, EXHAUSTED, UNCLEAN, STOP}

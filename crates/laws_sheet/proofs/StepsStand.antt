@@ -1,5 +1,6 @@
 -- SPDX-License-Identifier: Apache-2.0
 -- Every record leaves what stands in order, and says only what its code can. Assumes nothing.
+use Rattle.std.proofs.Common.{if◌then◌else◌}
 use Prim.Native.Nat.{ℕ, ◌≤◌, ◌^◌}
 use native.Mathlib.Omega.{arith}
 use mathlib.Core.Path.{◌≡◌, refl, sym, ap, subst}
@@ -8,7 +9,7 @@ use mathlib.Core.List.{List}
 use mathlib.Core.Option.{Option, none, some}
 use lib.Dec.{eqb, ltb, leb}
 use borrow.Author.Tests.{eqb-true, eqb-false, ltb-true, leb-true}
-use Rattle.basics.specs.Try.{Try, ok, refuse, if◌then◌else◌}
+use Rattle.basics.specs.Try.{Try, ok, refuse}
 use Rattle.basics.specs.Lists.{some?}
 use Rattle.basics.specs.Refusals.{STALE}
 use Rattle.basics.specs.Capacity.{need_capacity}

@@ -1,8 +1,7 @@
 -- SPDX-License-Identifier: Apache-2.0
 -- The refusals that a record says, by its code: 3, 4 and 10 are none of them, 7 comes only where a number may be spent,
 -- and 8 only where the record names a slot.
-use Rattle.std.specs.Prelude.{ℕ, ◌+◌, ◌≤◌, ◌≡◌, Bool, true, List, [], ◌∷◌, ◌⊎◌, eqb, leb}
-use Rattle.basics.specs.Try.{if◌then◌else◌}
+use Rattle.std.specs.Prelude.{ℕ, ◌+◌, ◌≤◌, ◌≡◌, Bool, true, List, [], ◌∷◌, ◌⊎◌, eqb, leb, if◌then◌else◌}
 use Rattle.basics.specs.Lists.{some?}
 use Rattle.basics.specs.Numbers.{MAX}
 use Rattle.basics.specs.Refusals.{INVALID, ALLOCATION, PINS, LIST, SLOT, STALE, EXHAUSTED, UNCLEAN, UNGIVEN, STOP}

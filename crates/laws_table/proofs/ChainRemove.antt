@@ -1,6 +1,7 @@
 -- SPDX-License-Identifier: Apache-2.0
 -- `remove` of the index is not refused for a slot of the key's chain: it is taken out of that chain, which keeps its order, and no
 -- other chain changes. Assumes nothing.
+use Rattle.std.proofs.Common.{if◌then◌else◌}
 use Prim.Native.Nat.{ℕ, zero, suc, ◌<◌, ◌≤◌}
 use native.Mathlib.Omega.{arith}
 use mathlib.Core.Path.{◌≡◌, refl, sym, ap, subst, ◌∙◌}
@@ -11,7 +12,7 @@ use lib.Dec.{eqb}
 use lib.ListN.{length, get_or, set, length-set}
 use lib.Seq.{get_or-set_same, get_or-set_other}
 use borrow.Author.Tests.{eqb-true, eqb-false, lt-leb, eq-eqb, ne_eqb}
-use Rattle.basics.specs.Try.{Try, ok, if◌then◌else◌}
+use Rattle.basics.specs.Try.{Try, ok}
 use Rattle.basics.specs.Numbers.{NONE}
 use Rattle.basics.specs.Members.{In, here, there, NotIn, Once}
 use Rattle.basics.proofs.Tests.{yes!, no!, is, some_same, none_some}

@@ -1,8 +1,8 @@
 -- SPDX-License-Identifier: Apache-2.0
 -- The invariant of the table: what its index, stack, heap and counts have to do with its slots. And what a call does to the slots.
-use Rattle.std.specs.Prelude.{ℕ, ◌<◌, ◌≤◌, ◌≡◌, Bool, true, List, length, get_or, set}
+use Rattle.std.specs.Prelude.{ℕ, ◌<◌, ◌≤◌, ◌≡◌, Bool, true, List, length, get_or, set, if◌then◌else◌}
 use Rattle.std.proofs.Math.Option.{Option, none, some}
-use Rattle.basics.specs.Try.{refuse, if◌then◌else◌}
+use Rattle.basics.specs.Try.{refuse}
 use Rattle.basics.specs.Refusals.{STOP}
 use Rattle.basics.specs.Lists.{down}
 use Rattle.basics.specs.Counts.{count}

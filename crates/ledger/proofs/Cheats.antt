@@ -1,6 +1,7 @@
 -- SPDX-License-Identifier: Apache-2.0
 -- The claim fails of every machine of specs/Cheats.antt, each at a list of a few calls, but the last one where the counts are next to their
 -- end. Assumes nothing.
+use Rattle.std.proofs.Common.{if◌then◌else◌}
 use Prim.Native.Nat.{ℕ, ◌+◌}
 use native.Mathlib.Omega.{arith}
 use mathlib.Core.Path.{◌≡◌, refl, sym, ap, ◌∙◌}
@@ -8,7 +9,7 @@ use mathlib.Core.Logic.{inl, inr}
 use mathlib.Core.Bool.{true}
 use mathlib.Core.List.{List, [], ◌∷◌}
 use lib.ListN.{replicate}
-use Rattle.basics.specs.Try.{ok, refuse, if◌then◌else◌}
+use Rattle.basics.specs.Try.{ok, refuse}
 use Rattle.basics.specs.Refusals.{EXHAUSTED}
 use Rattle.basics.specs.Numbers.{MAX}
 use Rattle.basics.proofs.Tests.{yes!, no!, is, false_true}

@@ -1,7 +1,7 @@
 -- SPDX-License-Identifier: Apache-2.0
 -- "These cheats are shut out": machines that cheat, each by one call or a few. That the claim fails of them is proved in proofs/Cheats.antt.
-use Rattle.std.specs.Prelude.{ℕ, Bool, false, List, map, ltb, eqb, set}
-use Rattle.basics.specs.Try.{Try, ok, refuse, if◌then◌else◌}
+use Rattle.std.specs.Prelude.{ℕ, Bool, false, List, map, ltb, eqb, set, if◌then◌else◌}
+use Rattle.basics.specs.Try.{Try, ok, refuse}
 use Rattle.basics.specs.Refusals.{STALE, EXHAUSTED, STOP}
 use Rattle.basics.specs.Numbers.{MAX}
 use Rattle.basics.specs.Answers.{Fine, done}

@@ -1,9 +1,9 @@
 -- SPDX-License-Identifier: Apache-2.0
 -- "Then oldest unpinned keys are removed until the rest fits, the rest restored in old slot order, those refused by a chain removed, and counts and
 -- counters carried over."
-use Rattle.std.specs.Prelude.{ℕ, zero, suc, ◌-◌, not, List, ltb, leb, set, replicate}
+use Rattle.std.specs.Prelude.{ℕ, zero, suc, ◌-◌, not, List, ltb, leb, set, replicate, if◌then◌else◌}
 use Rattle.std.proofs.Math.Option.{Option, none, some}
-use Rattle.basics.specs.Try.{Try, ok, refuse, ◌>>=◌, ◌>>◌, if◌then◌else◌, need}
+use Rattle.basics.specs.Try.{Try, ok, refuse, ◌>>=◌, ◌>>◌, need}
 use Rattle.basics.specs.Refusals.{STOP}
 use Rattle.basics.specs.Numbers.{NONE}
 use Rattle.basics.specs.Lists.{each_slot}

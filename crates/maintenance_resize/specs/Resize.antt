@@ -1,8 +1,8 @@
 -- SPDX-License-Identifier: Apache-2.0
 -- "Resize is `maintain_capacity` after its gate, one step."
-use Rattle.std.specs.Prelude.{ℕ, ◌&&◌, List, ltb, eqb, length, replicate}
+use Rattle.std.specs.Prelude.{ℕ, ◌&&◌, List, ltb, eqb, length, replicate, if◌then◌else◌}
 use Rattle.std.proofs.Math.Option.{Option, none, some}
-use Rattle.basics.specs.Try.{Try, ok, refuse, ◌>>=◌, ◌>>◌, if◌then◌else◌, need}
+use Rattle.basics.specs.Try.{Try, ok, refuse, ◌>>=◌, ◌>>◌, need}
 use Rattle.basics.specs.Refusals.{STOP, PINS, LIST, UNCLEAN}
 use Rattle.basics.specs.Numbers.{NONE}
 use Rattle.state.specs.declared.State.{State}

@@ -1,8 +1,8 @@
 -- SPDX-License-Identifier: Apache-2.0
 -- What the parts of restoring hand back, read as results of the rules.
-use Rattle.std.specs.Prelude.{ℕ, not}
+use Rattle.std.specs.Prelude.{ℕ, not, if◌then◌else◌}
 use Rattle.std.proofs.Math.Option.{Option, none, some}
-use Rattle.basics.specs.Try.{Try, ok, refuse, ◌>>=◌, if◌then◌else◌}
+use Rattle.basics.specs.Try.{Try, ok, refuse, ◌>>=◌}
 use Rattle.key.specs.declared.CacheKey.{CacheKey}
 use Rattle.index.specs.declared.Index.{Index}
 use Rattle.index.specs.declared.Top.{Top}

@@ -1,7 +1,6 @@
 -- SPDX-License-Identifier: Apache-2.0
 -- "pins are a lent byte for each slot, 0 unpinned, other pinned."
-use Rattle.std.specs.Prelude.{ℕ, zero, suc, ◌+◌, max, Bool, true, ◌&&◌, ◌||◌, List, [], ◌∷◌, eqb}
-use Rattle.basics.specs.Try.{if◌then◌else◌}
+use Rattle.std.specs.Prelude.{ℕ, zero, suc, ◌+◌, max, Bool, true, ◌&&◌, ◌||◌, List, [], ◌∷◌, eqb, if◌then◌else◌}
 use Rattle.basics.specs.Numbers.{power_over}
 use Rattle.state.specs.declared.State.{State}
 use Rattle.state.specs.Slots.{slot_at, is_clean}

@@ -1,9 +1,9 @@
 -- SPDX-License-Identifier: Apache-2.0
 -- "pinned keys are restored in old slot order into a fresh table; if a chain refuses one, double the capacity while shrinking and below half the old
 -- (rounded down), else Busy."
-use Rattle.std.specs.Prelude.{ℕ, zero, suc, ◌+◌, ◌*◌, ◌/◌, Bool, not, ◌&&◌, List, ltb, eqb}
+use Rattle.std.specs.Prelude.{ℕ, zero, suc, ◌+◌, ◌*◌, ◌/◌, Bool, not, ◌&&◌, List, ltb, eqb, if◌then◌else◌}
 use Rattle.std.proofs.Math.Option.{Option, none, some}
-use Rattle.basics.specs.Try.{Try, ok, ◌>>=◌, ◌>>◌, if◌then◌else◌, need}
+use Rattle.basics.specs.Try.{Try, ok, ◌>>=◌, ◌>>◌, need}
 use Rattle.basics.specs.Refusals.{STOP}
 use Rattle.basics.specs.Numbers.{MAX}
 use Rattle.key.specs.declared.CacheKey.{CacheKey}

@@ -1,7 +1,7 @@
 -- SPDX-License-Identifier: Apache-2.0
 -- Resize through the gate.
-use Rattle.std.specs.Prelude.{ℕ, Bool, true, false, List, ltb, eqb, length}
-use Rattle.basics.specs.Try.{Try, ok, refuse, ◌>>◌, if◌then◌else◌, need}
+use Rattle.std.specs.Prelude.{ℕ, Bool, true, false, List, ltb, eqb, length, if◌then◌else◌}
+use Rattle.basics.specs.Try.{Try, ok, refuse, ◌>>◌, need}
 use Rattle.basics.specs.Answers.{Fine, done}
 use Rattle.basics.specs.Refusals.{STOP, PINS, LIST, EXHAUSTED}
 use Rattle.basics.specs.Numbers.{MAX}

@@ -1,5 +1,6 @@
 -- SPDX-License-Identifier: Apache-2.0
 -- Laws of what is written: two writings are one of both texts, a byte, nothing; and the steps of the rules over a list. Assumes nothing.
+use Rattle.std.proofs.Common.{if◌then◌else◌}
 use Prim.Native.Nat.{ℕ, zero, suc, ◌+◌, ◌-◌, ◌≤◌, ◌<◌, min}
 use native.Mathlib.Omega.{arith}
 use native.Mathlib.Numerals.{add-one}
@@ -11,7 +12,6 @@ use lib.Dec.{leb}
 use lib.ListN.{length, take, drop, set, get_or, length-append, length-set, length-drop, length-map, drop_of_length-le}
 use lib.Seq.{sets, set_out, drop-cons, take_all, take-nil}
 use borrow.Author.Tests.{eq-eqb, ne_eqb, leb-true, leb-false}
-use Rattle.basics.specs.Try.{if◌then◌else◌}
 use Rattle.basics.specs.Lists.{every}
 use Rattle.basics.proofs.Tests.{is, yes!, no! }
 use Rattle.sheet_lines.specs.Text.{decimal, SPACE}

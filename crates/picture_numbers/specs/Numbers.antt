@@ -1,7 +1,6 @@
 -- SPDX-License-Identifier: Apache-2.0
 -- Lists in plain numbers, as oracle/README.md has them.
-use Rattle.std.specs.Prelude.{ℕ, suc, ◌+◌, Bool, true, false, List, [], ◌∷◌, ◌++◌, eqb, take, drop}
-use Rattle.basics.specs.Try.{if◌then◌else◌}
+use Rattle.std.specs.Prelude.{ℕ, suc, ◌+◌, Bool, true, false, List, [], ◌∷◌, ◌++◌, eqb, take, drop, if◌then◌else◌}
 use Rattle.basics.specs.Lists.{every}
 use Rattle.sheet_lines.specs.Text.{decimal, SPACE}
 

@@ -3,8 +3,7 @@
 // Where there is no room it writes less, and a place past the end is taken for the end, so an answer is always within `out`.
 #![tactic(auto)]
 
-ghost use Rattle.std.specs.Prelude.{◌≡◌, false, [], ◌∷◌, ◌+◌, ◌≤◌, ◌<◌, ◌^◌, min, length, take, drop, leb};
-ghost use Rattle.basics.specs.Try.{if◌then◌else◌};
+ghost use Rattle.std.specs.Prelude.{◌≡◌, false, [], ◌∷◌, ◌+◌, ◌≤◌, ◌<◌, ◌^◌, min, length, take, drop, leb, if◌then◌else◌};
 ghost use Rattle.sheet_lines.specs.Text.{decimal};
 ghost use Rattle.picture_numbers.specs.Wrote.{Wrote};
 ghost use Rattle.picture_numbers.specs.Numbers.{word_numbers, spaced, all_zero, placed, told, held, past};

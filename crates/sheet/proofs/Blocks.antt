@@ -1,6 +1,7 @@
 -- SPDX-License-Identifier: Apache-2.0
 -- The program reads its input a block at a time and keeps only what stands and the number of the next record. That this prints
 -- what `run_sheet` prints for the whole input is `blocks`: no contract can speak of what a program reads and writes. Assumes nothing.
+use Rattle.std.proofs.Common.{if◌then◌else◌}
 use Prim.Native.Nat.{ℕ, zero, suc, ◌+◌, ◌-◌, ◌*◌, ◌≤◌, ◌<◌}
 use native.Mathlib.Omega.{arith}
 use mathlib.Core.Path.{◌≡◌, refl, sym, ◌∙◌, ap}
@@ -10,7 +11,6 @@ use lib.Dec.{eqb, ltb}
 use lib.ListN.{length, take, drop, length-append, length-drop, take-append-drop, get_or-append}
 use lib.Seq.{drop-append-le, take_all, length-take-le}
 use borrow.Author.Tests.{ltb-true, ltb-false, lt-ltb, le-ltb, le-leb}
-use Rattle.basics.specs.Try.{if◌then◌else◌}
 use Rattle.basics.specs.Numbers.{MAX}
 use Rattle.basics.proofs.Tests.{is, yes!, no! }
 use Rattle.sheet_lines.specs.Words.{is_bad}

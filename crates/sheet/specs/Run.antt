@@ -1,7 +1,6 @@
 -- SPDX-License-Identifier: Apache-2.0
 -- A whole sheet: the record number from 0, a line for each record, "and ends" after `bad`.
-use Rattle.std.specs.Prelude.{ℕ, zero, suc, ◌+◌, ◌*◌, ◌/◌, ◌-◌, min, Bool, true, false, List, [], ◌++◌, eqb, ltb, length, drop, take}
-use Rattle.basics.specs.Try.{if◌then◌else◌}
+use Rattle.std.specs.Prelude.{ℕ, zero, suc, ◌+◌, ◌*◌, ◌/◌, ◌-◌, min, Bool, true, false, List, [], ◌++◌, eqb, ltb, length, drop, take, if◌then◌else◌}
 use Rattle.basics.specs.Numbers.{MAX}
 use Rattle.sheet_standing.specs.declared.Standing.{Standing}
 use Rattle.sheet_steps.specs.declared.Stepped.{Stepped}

@@ -2,8 +2,7 @@
 // A whole run sheet of document 01, a block of bytes at a time.
 #![tactic(auto)]
 
-ghost use Rattle.std.specs.Prelude.{◌≡◌, ◌++◌, ◌+◌, ◌≤◌, length, take, drop};
-ghost use Rattle.basics.specs.Try.{if◌then◌else◌};
+ghost use Rattle.std.specs.Prelude.{◌≡◌, ◌++◌, ◌+◌, ◌≤◌, length, take, drop, if◌then◌else◌};
 ghost use Rattle.sheet_lines.specs.Words.{line_of, text_of};
 ghost use Rattle.sheet.specs.Run.{run_from, turns as turns_rule, ran_after};
 

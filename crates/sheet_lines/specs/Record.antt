@@ -1,7 +1,6 @@
 -- SPDX-License-Identifier: Apache-2.0
 -- "24-byte records .. numbers low byte first: code, allow (0 or 1), kind, token place (0 to 15), a 32-bit number, file, index."
-use Rattle.std.specs.Prelude.{ℕ, zero, suc, ◌+◌, ◌*◌, Bool, ◌&&◌, List, ltb, leb, eqb, length, get_or}
-use Rattle.basics.specs.Try.{if◌then◌else◌}
+use Rattle.std.specs.Prelude.{ℕ, zero, suc, ◌+◌, ◌*◌, Bool, ◌&&◌, List, ltb, leb, eqb, length, get_or, if◌then◌else◌}
 use Rattle.sheet_lines.specs.declared.Record.{Record}
 use Rattle.sheet_lines.specs.declared.Read.{Read}
 

@@ -1,10 +1,9 @@
 -- SPDX-License-Identifier: Apache-2.0
 -- Text as bytes: a word, and a number in decimal.
-use Rattle.std.specs.Prelude.{ℕ, zero, suc, ◌+◌, ◌/◌, ◌%◌, List, [], ◌∷◌, ltb}
+use Rattle.std.specs.Prelude.{ℕ, zero, suc, ◌+◌, ◌/◌, ◌%◌, List, [], ◌∷◌, ltb, if◌then◌else◌}
 use Prim.Native.Char.{code}
 use Prim.Native.String.{String}
 use Prim.Native.String as Text
-use Rattle.basics.specs.Try.{if◌then◌else◌}
 
 -- the codes of a text's characters; they are its bytes where each is below 128
 unfoldable pub bytes_of : String → List ℕ

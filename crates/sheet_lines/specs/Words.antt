@@ -1,7 +1,6 @@
 -- SPDX-License-Identifier: Apache-2.0
 -- "Each line has five fields: record number from 0; answer; a number or `-`; clean slots; loading slots."
-use Rattle.std.specs.Prelude.{ℕ, Bool, true, false, List, [], ◌∷◌, ◌++◌, drop}
-use Rattle.basics.specs.Try.{if◌then◌else◌}
+use Rattle.std.specs.Prelude.{ℕ, Bool, true, false, List, [], ◌∷◌, ◌++◌, drop, if◌then◌else◌}
 use Rattle.sheet_lines.specs.declared.Said.{Said}
 use Rattle.sheet_lines.specs.declared.Line.{Line}
 use Rattle.sheet_lines.specs.Text.{bytes_of, decimal, SPACE, NEWLINE}

@@ -1,7 +1,6 @@
 -- SPDX-License-Identifier: Apache-2.0
 -- The records that a sheet holds: the codes are 1 to 9, the places 0 to 15, the number has 32 bits.
-use Rattle.std.specs.Prelude.{ℕ, ◌+◌, ◌*◌, Bool, ◌&&◌, ltb, leb}
-use Rattle.basics.specs.Try.{if◌then◌else◌}
+use Rattle.std.specs.Prelude.{ℕ, ◌+◌, ◌*◌, Bool, ◌&&◌, ltb, leb, if◌then◌else◌}
 use Rattle.sheet_lines.specs.declared.Record.{Record}
 use Rattle.sheet_record.specs.declared.Four.{Four}
 

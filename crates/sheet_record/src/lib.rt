@@ -2,8 +2,7 @@
 // A record of a run sheet as its 24 bytes. They are read as the record again.
 #![tactic(auto)]
 
-ghost use Rattle.std.specs.Prelude.{◌≡◌, ◌/◌, ◌%◌};
-ghost use Rattle.basics.specs.Try.{if◌then◌else◌};
+ghost use Rattle.std.specs.Prelude.{◌≡◌, ◌/◌, ◌%◌, if◌then◌else◌};
 ghost use Rattle.sheet_lines.specs.declared.Read.{Read};
 ghost use Rattle.sheet_lines.specs.Record.{read_record};
 ghost use Rattle.sheet_record.specs.Good.{good, bit_of, four_value};

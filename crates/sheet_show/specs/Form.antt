@@ -1,8 +1,7 @@
 -- SPDX-License-Identifier: Apache-2.0
 -- The line of text that a record is shown as: the call's word with its number, then every field that is not what is usual, by its name. A record with
 -- something in a field that its call does not use is shown as `record`, with every field that is not 0.
-use Rattle.std.specs.Prelude.{ℕ, zero, suc, Bool, true, false, List, [], ◌∷◌, ◌++◌, eqb, length, take, drop}
-use Rattle.basics.specs.Try.{if◌then◌else◌}
+use Rattle.std.specs.Prelude.{ℕ, zero, suc, Bool, true, false, List, [], ◌∷◌, ◌++◌, eqb, length, take, drop, if◌then◌else◌}
 use Rattle.sheet_lines.specs.declared.Record.{Record}
 use Rattle.sheet_lines.specs.declared.Read.{Read}
 use Rattle.sheet_lines.specs.Record.{read_record}

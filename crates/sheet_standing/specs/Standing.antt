@@ -1,7 +1,6 @@
 -- SPDX-License-Identifier: Apache-2.0
 -- What stands between two records: the table, the token places, the pins, and whether there was a 1 that was not refused.
-use Rattle.std.specs.Prelude.{ℕ, true, false, List, take, get_or, set, replicate}
-use Rattle.basics.specs.Try.{if◌then◌else◌}
+use Rattle.std.specs.Prelude.{ℕ, true, false, List, take, get_or, set, replicate, if◌then◌else◌}
 use Rattle.basics.specs.Numbers.{NONE}
 use Rattle.key.specs.Key.{no_key}
 use Rattle.state.specs.declared.State.{State}

@@ -1,5 +1,6 @@
 -- SPDX-License-Identifier: Apache-2.0
 -- What the steps share: the pin bytes that are lent, the pins as they move, and the cases of a record. Assumes nothing.
+use Rattle.std.proofs.Common.{if◌then◌else◌}
 use Prim.Native.Nat.{ℕ, zero, suc, ◌+◌, ◌-◌, ◌≤◌, ◌<◌, min}
 use native.Mathlib.Omega.{arith}
 use mathlib.Core.Path.{◌≡◌, refl, sym, ◌∙◌, ap}
@@ -9,7 +10,6 @@ use lib.ListN.{length, take, get_or, set, replicate, length-append}
 use lib.Seq.{take_all, take_at}
 use borrow.Author.Tests.{leb-true, leb-false, eq-eqb, ne_eqb}
 use lib.Dec.{leb}
-use Rattle.basics.specs.Try.{if◌then◌else◌}
 use Rattle.basics.specs.Numbers.{NONE}
 use Rattle.basics.specs.Refusals.{STALE}
 use Rattle.basics.specs.declared.Done.{Done}

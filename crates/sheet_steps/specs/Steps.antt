@@ -1,8 +1,8 @@
 -- SPDX-License-Identifier: Apache-2.0
 -- "Codes: 1 new, 2 access, 3 publish, 4 abort, 5 lookup, 6 remove slot, 7 set pin of a clean slot, 8 resize, 9 reclaim"
-use Rattle.std.specs.Prelude.{ℕ, zero, suc, ◌+◌, Bool, true, not, List, eqb, length, get_or, set}
+use Rattle.std.specs.Prelude.{ℕ, zero, suc, ◌+◌, Bool, true, not, List, eqb, length, get_or, set, if◌then◌else◌}
 use Rattle.std.proofs.Math.Option.{Option, none, some}
-use Rattle.basics.specs.Try.{Try, ok, refuse, if◌then◌else◌}
+use Rattle.basics.specs.Try.{Try, ok, refuse}
 use Rattle.basics.specs.Refusals.{STALE}
 use Rattle.basics.specs.Numbers.{NONE}
 use Rattle.basics.specs.declared.Done.{Done}

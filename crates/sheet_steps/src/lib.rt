@@ -2,8 +2,7 @@
 // The run sheets of document 01: the step that a record makes.
 #![tactic(auto)]
 
-ghost use Rattle.std.specs.Prelude.{◌≡◌, Bool, List, ℕ, ◌≤◌, ◌<◌, min, length, set};
-ghost use Rattle.basics.specs.Try.{if◌then◌else◌};
+ghost use Rattle.std.specs.Prelude.{◌≡◌, Bool, List, ℕ, ◌≤◌, ◌<◌, min, length, set, if◌then◌else◌};
 ghost use Rattle.basics.specs.Answers.{done_answer};
 ghost use Rattle.state.specs.Answers.{access_answer, found_answer};
 ghost use Rattle.state.specs.Remove.{need_clean};

@@ -2,8 +2,8 @@
 -- What a line of text says: its first word is the call, and each word behind it is `name=value`, or the call's number alone. `#` begins a comment.
 -- A call takes the fields that it uses, each at most once, and one that uses the number needs it; `record` takes every field, and needs the code.
 -- Where a line is wrong, the word that is wrong is told by its place in the line.
-use Rattle.std.specs.Prelude.{ℕ, zero, suc, ◌+◌, ◌-◌, ◌*◌, Bool, true, false, not, ◌&&◌, List, [], ◌∷◌, eqb, ltb, leb, length, take, drop, get_or, set}
-use Rattle.basics.specs.Try.{Try, ok, refuse, if◌then◌else◌}
+use Rattle.std.specs.Prelude.{ℕ, zero, suc, ◌+◌, ◌-◌, ◌*◌, Bool, true, false, not, ◌&&◌, List, [], ◌∷◌, eqb, ltb, leb, length, take, drop, get_or, set, if◌then◌else◌}
+use Rattle.basics.specs.Try.{Try, ok, refuse}
 use Rattle.sheet_text.specs.Find.{index_of}
 use Rattle.sheet_lines.specs.declared.Record.{Record}
 use Rattle.sheet_lines.specs.Text.{bytes_of}

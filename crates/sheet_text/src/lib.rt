@@ -2,8 +2,7 @@
 // A line of a run sheet's text form read (sheets/README.md): one call a line, with names for fields. Crate `sheet_show` has the way back.
 #![tactic(auto)]
 
-ghost use Rattle.std.specs.Prelude.{◌≡◌, true, ◌+◌, ◌≤◌, ◌<◌, length, drop, slice_range};
-ghost use Rattle.basics.specs.Try.{if◌then◌else◌};
+ghost use Rattle.std.specs.Prelude.{◌≡◌, true, ◌+◌, ◌≤◌, ◌<◌, length, drop, slice_range, if◌then◌else◌};
 ghost use Rattle.sheet_text.specs.Find.{index_of};
 ghost use Rattle.sheet_text.specs.Parse.{is_blank, counts_as, run_of, same_bytes, word_size, word_place, number_try, number_of, field_of, least, most};
 ghost use Rattle.sheet_text.specs.Parse.{plain_call, call_of, begin, stop, with_value, with_word, record_of, finished, with_words, text_says};

@@ -1,7 +1,6 @@
 -- SPDX-License-Identifier: Apache-2.0
 -- The fields that a call uses (document 01, "Run sheets"), and the records where every other field is 0.
-use Rattle.std.specs.Prelude.{ℕ, Bool, true, false, ◌&&◌, eqb, ltb, leb}
-use Rattle.basics.specs.Try.{if◌then◌else◌}
+use Rattle.std.specs.Prelude.{ℕ, Bool, true, false, ◌&&◌, eqb, ltb, leb, if◌then◌else◌}
 use Rattle.sheet_lines.specs.declared.Record.{Record}
 use Rattle.sheet_record.specs.Good.{bit_of}
 

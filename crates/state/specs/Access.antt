@@ -1,8 +1,8 @@
 -- SPDX-License-Identifier: Apache-2.0
 -- `access_with_victim`.
-use Rattle.std.specs.Prelude.{ℕ, ◌+◌, ◌-◌, Bool, true, false, not, List, ltb, eqb, length, set}
+use Rattle.std.specs.Prelude.{ℕ, ◌+◌, ◌-◌, Bool, true, false, not, List, ltb, eqb, length, set, if◌then◌else◌}
 use Rattle.std.proofs.Math.Option.{Option, none, some}
-use Rattle.basics.specs.Try.{Try, ok, refuse, ◌>>=◌, ◌>>◌, if◌then◌else◌, need}
+use Rattle.basics.specs.Try.{Try, ok, refuse, ◌>>=◌, ◌>>◌, need}
 use Rattle.basics.specs.Refusals.{STOP, PINS, EXHAUSTED}
 use Rattle.basics.specs.Numbers.{MAX}
 use Rattle.key.specs.declared.CacheKey.{CacheKey}

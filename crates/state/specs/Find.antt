@@ -1,8 +1,8 @@
 -- SPDX-License-Identifier: Apache-2.0
 -- `find`: "Key clean: the next use number is taken, the slot touched, hits + 1, Hit. Key loading: in-progress + 1, LoadInProgress."
-use Rattle.std.specs.Prelude.{ℕ, zero, suc, ◌+◌, not, leb, eqb}
+use Rattle.std.specs.Prelude.{ℕ, zero, suc, ◌+◌, not, leb, eqb, if◌then◌else◌}
 use Rattle.std.proofs.Math.Option.{Option, none, some}
-use Rattle.basics.specs.Try.{Try, ok, refuse, ◌>>=◌, ◌>>◌, if◌then◌else◌, need}
+use Rattle.basics.specs.Try.{Try, ok, refuse, ◌>>=◌, ◌>>◌, need}
 use Rattle.basics.specs.Refusals.{STOP, EXHAUSTED}
 use Rattle.basics.specs.Numbers.{NONE, MAX}
 use Rattle.key.specs.declared.CacheKey.{CacheKey}

@@ -1,8 +1,8 @@
 -- SPDX-License-Identifier: Apache-2.0
 -- "Validate, peek_clean, clean_entry, oldest_clean and cold_candidate read only."
-use Rattle.std.specs.Prelude.{ℕ, zero, suc, ◌&&◌, ltb, leb, eqb}
+use Rattle.std.specs.Prelude.{ℕ, zero, suc, ◌&&◌, ltb, leb, eqb, if◌then◌else◌}
 use Rattle.std.proofs.Math.Option.{Option, none, some}
-use Rattle.basics.specs.Try.{Try, ok, refuse, ◌>>◌, if◌then◌else◌, need}
+use Rattle.basics.specs.Try.{Try, ok, refuse, ◌>>◌, need}
 use Rattle.basics.specs.Refusals.{STOP, STALE}
 use Rattle.basics.specs.Numbers.{NONE}
 use Rattle.basics.specs.Answers.{Fine, done}

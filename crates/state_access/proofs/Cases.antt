@@ -1,5 +1,6 @@
 -- SPDX-License-Identifier: Apache-2.0
 -- The ends of the rule of access, each as an equation on plain variables, and what the code's answers tell of a rule. Assumes nothing.
+use Rattle.std.proofs.Common.{if◌then◌else◌}
 use Prim.Native.Nat.{ℕ, ◌+◌, ◌≤◌, ◌<◌}
 use mathlib.Core.Path.{◌≡◌, refl, sym, ◌∙◌, ap}
 use mathlib.Core.Bool.{Bool, true, false}
@@ -7,7 +8,7 @@ use mathlib.Core.List.{List}
 use mathlib.Core.Option.{none, some}
 use lib.ListN.{length}
 use borrow.Author.Tests.{lt-ltb, le-ltb, eq-eqb, ne_eqb}
-use Rattle.basics.specs.Try.{Try, ok, refuse, ◌>>=◌, if◌then◌else◌}
+use Rattle.basics.specs.Try.{Try, ok, refuse, ◌>>=◌}
 use Rattle.basics.specs.Refusals.{STOP, PINS, EXHAUSTED}
 use Rattle.basics.specs.Numbers.{MAX, more}
 use Rattle.basics.specs.declared.Done.{Done}

@@ -1,5 +1,6 @@
 -- SPDX-License-Identifier: Apache-2.0
 -- What the proofs of the searches share and callers cite: the walks one step on, the walk in place, and the ends of `seek`. Assumes nothing.
+use Rattle.std.proofs.Common.{if◌then◌else◌}
 use Prim.Native.Nat.{ℕ, zero, suc, ◌+◌, ◌-◌, ◌≤◌, ◌<◌}
 use mathlib.Core.Path.{◌≡◌, refl, sym, ◌∙◌, ap}
 use mathlib.Core.Bool.{true, false, not}
@@ -7,7 +8,7 @@ use mathlib.Core.Option.{Option, none, some}
 use native.Mathlib.Omega.{arith}
 use lib.Dec.{leb, eqb}
 use borrow.Author.Tests.{eqb-false, le-leb, lt-leb, eq-eqb, ne_eqb, not-true}
-use Rattle.basics.specs.Try.{Try, ok, refuse, ◌>>=◌, if◌then◌else◌}
+use Rattle.basics.specs.Try.{Try, ok, refuse, ◌>>=◌}
 use Rattle.basics.specs.Refusals.{STOP, EXHAUSTED}
 use Rattle.basics.specs.Numbers.{NONE, MAX}
 use Rattle.basics.proofs.Tests.{yes!, no!, is, one_less_lem, met}

@@ -1,5 +1,6 @@
 -- SPDX-License-Identifier: Apache-2.0
 -- What the ledger gives for an access, told by the table: the key's chain, its stack and the places of its heap. Assumes nothing.
+use Rattle.std.proofs.Common.{if◌then◌else◌}
 use Prim.Native.Nat.{ℕ, ◌<◌, ◌≤◌, min}
 use native.Mathlib.Omega.{arith}
 use mathlib.Core.Path.{◌≡◌, refl, sym, ap, ◌∙◌}
@@ -10,7 +11,7 @@ use mathlib.Core.Option.{Option, none, some}
 use lib.Dec.{ltb, leb, eqb}
 use lib.ListN.{length}
 use borrow.Author.Tests.{eqb-true, eqb-false, lt-ltb, le-ltb, le-leb, lt-leb, eq-eqb, ne_eqb}
-use Rattle.basics.specs.Try.{ok, refuse, if◌then◌else◌}
+use Rattle.basics.specs.Try.{ok, refuse}
 use Rattle.basics.specs.Refusals.{PINS}
 use Rattle.basics.specs.Lists.{keep, some?, first}
 use Rattle.basics.specs.Members.{In}
