@@ -1,5 +1,6 @@
 -- SPDX-License-Identifier: Apache-2.0
--- `cases::read_words` meets its contract. The invariant: the places that are left are within the list, which stays as long as it was. Assumes nothing.
+-- `cases::read_words` meets its contract. The invariant: the places that are left are within the list, which stays as long as it was.
+-- Assumes nothing.
 use Prim.Native.Nat.{◌+◌, ◌≤◌}
 use mathlib.Core.Path.{◌≡◌}
 use lib.ListN.{length}

@@ -1,5 +1,6 @@
 -- SPDX-License-Identifier: Apache-2.0
--- `gate_trace::run_all` meets its contract. The invariant: both lists stay as long as they were. The measure is the number of cases that may still come.
+-- `gate_trace::run_all` meets its contract. The invariant: both lists stay as long as they were. The measure is the number of cases that
+-- may still come.
 -- Assumes nothing.
 use mathlib.Core.Path.{◌∙◌}
 use native.Mathlib.Omega.{arith}
@@ -21,4 +22,5 @@ pub loop-left-smaller : goal.loop-left-smaller
 loop-left-smaller g c = omega (arith, c.loop-left-test.true)
 
 pub loop-left-preserved : goal.loop-left-preserved
-loop-left-preserved g c = (c.wait-waiting.ensures.bytes_len_unchanged ∙ c.loop-left.invariant.0, c.take_case-taken.ensures.within.1 ∙ c.loop-left.invariant.1)
+loop-left-preserved g c =
+    (c.wait-waiting.ensures.bytes_len_unchanged ∙ c.loop-left.invariant.0, c.take_case-taken.ensures.within.1 ∙ c.loop-left.invariant.1)

@@ -1,5 +1,6 @@
 -- SPDX-License-Identifier: Apache-2.0
--- `made_up::run_all` meets its contract. The invariant: both lists stay as long as they were. The measure is the number of cases that may still come. Assumes nothing.
+-- `made_up::run_all` meets its contract. The invariant: both lists stay as long as they were. The measure is the number of cases that may
+-- still come. Assumes nothing.
 use mathlib.Core.Path.{◌≡◌}
 use lib.ListN.{length}
 use Rattle.made_up.proofs.run_all.Given as goal

@@ -23,4 +23,7 @@ shape_of-out c = c.put_heap.ensures.size ∙ c.put_index-b.ensures.size ∙ c.wa
 
 pub returns : goal.returns
 unfolding table_numbers below
-returns c = numbers_joined _ _ (numbers_joined _ _ (numbers_joined _ _ c.put_numbers-a.ensures c.walk_slots-walked.ensures.wrote) c.put_index-b.ensures) c.put_heap.ensures
+returns c =
+    numbers_joined _ _
+    (numbers_joined _ _ (numbers_joined _ _ c.put_numbers-a.ensures c.walk_slots-walked.ensures.wrote) c.put_index-b.ensures)
+    c.put_heap.ensures

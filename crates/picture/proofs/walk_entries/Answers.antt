@@ -18,15 +18,23 @@ pub put_text-requires : goal.put_text-requires
 put_text-requires c = tt
 
 pub loop-left-init : goal.loop-left-init
-loop-left-init c = let n : length c.args.entries ≡ 256 = search (rules, mapped) in (n, walk_start entry_numbers c.args.bare _ _ _ _ _ (omega arith) (omega arith))
+loop-left-init c =
+    let n : length c.args.entries ≡ 256 = search (rules, mapped) in
+    (n, walk_start entry_numbers c.args.bare _ _ _ _ _ (omega arith) (omega arith))
 
 pub entry_numbers-numbers-requires : goal.entry_numbers-numbers-requires
 entry_numbers-numbers-requires c = tt
 
 pub loop-left-preserved : goal.loop-left-preserved
-loop-left-preserved c = (c.loop-left.invariant.0, walk_on entry_numbers c.args.bare _ c.entry_numbers-numbers.ensures c.loop-left.invariant.1 c.loop-left-test.true c.put_place-to.ensures.wrote c.put_place-to.ensures.held_value)
+loop-left-preserved c = (
+  c.loop-left.invariant.0,
+  walk_on entry_numbers c.args.bare _ c.entry_numbers-numbers.ensures c.loop-left.invariant.1 c.loop-left-test.true
+      c.put_place-to.ensures.wrote c.put_place-to.ensures.held_value,
+)
 
 pub returns : goal.returns
 returns c =
-    let e = walk_end entry_numbers c.args.bare c.args.from c.args.count (omega arith) (omega arith) c.put_text.ensures c.loop-left.invariant.1 c.loop-left-test.false in
+    let e =
+    walk_end entry_numbers c.args.bare c.args.from c.args.count (omega arith) (omega arith) c.put_text.ensures
+    c.loop-left.invariant.1 c.loop-left-test.false in
     record { wrote = e.0; held_value = e.1 }

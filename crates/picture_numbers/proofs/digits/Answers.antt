@@ -16,4 +16,7 @@ pub shape_of-out : goal.shape_of-out
 shape_of-out c = c.put_text.ensures.size
 
 pub returns : goal.returns
-returns c = wrote_as (c.decimal-count.ensures.digits ∙ fewest_decimal c.args.n c.decimal-count.result (omega arith) c.decimal-count.ensures.len) c.put_text.ensures
+returns c =
+    wrote_as
+    (c.decimal-count.ensures.digits ∙ fewest_decimal c.args.n c.decimal-count.result (omega arith) c.decimal-count.ensures.len)
+    c.put_text.ensures

@@ -1,5 +1,6 @@
 -- SPDX-License-Identifier: Apache-2.0
--- `picture_numbers::put_text` meets its contract. The invariant: what is left of the text, written from the place reached, makes the whole; and so many bytes
+-- `picture_numbers::put_text` meets its contract. The invariant: what is left of the text, written from the place reached, makes the whole;
+-- and so many bytes
 -- are left as there is text and room for. Assumes nothing.
 use native.Mathlib.Omega.{arith}
 use lib.ListN.{length-set}
@@ -13,7 +14,13 @@ pub least-left-requires : goal.least-left-requires
 least-left-requires c = tt
 
 pub loop-left-preserved : goal.loop-left-preserved
-loop-left-preserved c = (omega arith, omega arith, simp length-set c.loop-left.invariant.2, omega arith, text_on c.args.text.now c.loop-left.from (omega arith) (omega arith) c.loop-left.invariant.4)
+loop-left-preserved c = (
+  omega arith,
+  omega arith,
+  simp length-set c.loop-left.invariant.2,
+  omega arith,
+  text_on c.args.text.now c.loop-left.from (omega arith) (omega arith) c.loop-left.invariant.4,
+)
 
 pub returns : goal.returns
 returns c = text_end c.args.text.now c.loop-left.from (omega arith) (λ h. omega arith) c.loop-left.invariant.4

@@ -23,9 +23,13 @@ pub wider-requires : goal.wider-requires
 wider-requires c = tt
 
 pub loop-left-preserved : goal.loop-left-preserved
-loop-left-preserved c = walk_on word_numbers c.args.bare 0 (ap (λ n. n ∷ []) c.wider.ensures) c.loop-left.invariant c.loop-left-test.true c.put_place-to.ensures.wrote c.put_place-to.ensures.held_value
+loop-left-preserved c =
+    walk_on word_numbers c.args.bare 0 (ap (λ n. n ∷ []) c.wider.ensures) c.loop-left.invariant c.loop-left-test.true
+    c.put_place-to.ensures.wrote c.put_place-to.ensures.held_value
 
 pub returns : goal.returns
 returns c =
-    let e = walk_end word_numbers c.args.bare c.args.from c.args.count (omega arith) (omega arith) c.put_text.ensures c.loop-left.invariant c.loop-left-test.false in
+    let e =
+    walk_end word_numbers c.args.bare c.args.from c.args.count (omega arith) (omega arith) c.put_text.ensures
+    c.loop-left.invariant c.loop-left-test.false in
     record { wrote = e.0; held_value = e.1 }

@@ -7,4 +7,5 @@ pub slice_bounds-line-end : goal.slice_bounds-line-end
 slice_bounds-line-end c = let g : length c.args.reading.line ≡ 256 = search rules in omega arith
 
 pub slice_bounds-add_line-end : goal.slice_bounds-add_line-end
-slice_bounds-add_line-end c = let g : length c.args.reading.line ≡ 256 = search rules in sym (length-take-le c.args.reading.len c.args.reading.line (omega arith))
+slice_bounds-add_line-end c =
+    let g : length c.args.reading.line ≡ 256 = search rules in sym (length-take-le c.args.reading.len c.args.reading.line (omega arith))

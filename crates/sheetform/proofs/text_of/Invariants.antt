@@ -7,8 +7,11 @@ use Rattle.sheetform.proofs.text_of.Given as goal
 
 abbrev pub invariant-loop-left : goal.invariant-loop-left
 invariant-loop-left l =
-    (length l.out ≡ length l.initial.out) × (l.written + 200 * l.left ≤ length l.initial.out) × (l.at + 24 * l.left ≡ 24 * (length l.initial.out / 200)) ×
-    (l.records + l.left ≡ length l.initial.out / 200) × (take l.written l.out ++ listed_text l.left (drop l.at l.bytes) ≡ listed_text (length l.initial.out / 200) l.bytes)
+    (length l.out ≡ length l.initial.out) ×
+    (l.written + 200 * l.left ≤ length l.initial.out) ×
+    (l.at + 24 * l.left ≡ 24 * (length l.initial.out / 200)) ×
+    (l.records + l.left ≡ length l.initial.out / 200) ×
+    (take l.written l.out ++ listed_text l.left (drop l.at l.bytes) ≡ listed_text (length l.initial.out / 200) l.bytes)
 
 abbrev pub decreases-loop-left : goal.decreases-loop-left
 decreases-loop-left l = l.left

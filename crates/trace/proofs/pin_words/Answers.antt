@@ -15,7 +15,12 @@ pub bounds-words-i : goal.bounds-words-i
 bounds-words-i c = let n = ap length c.loop-left.invariant.2 in search rules
 
 pub loop-left-preserved : goal.loop-left-preserved
-loop-left-preserved c = (omega arith, c.loop-left.invariant.1, ap (λ l. set l c.loop-left.i c.wide.result) c.loop-left.invariant.2 ∙ fill_turn 256 c.args.pins c.loop-left.i c.wide.result (omega arith) (omega arith) c.wide.ensures)
+loop-left-preserved c = (
+  omega arith,
+  c.loop-left.invariant.1,
+  ap (λ l. set l c.loop-left.i c.wide.result) c.loop-left.invariant.2
+      ∙ fill_turn 256 c.args.pins c.loop-left.i c.wide.result (omega arith) (omega arith) c.wide.ensures,
+)
 
 pub returns : goal.returns
 returns c = c.loop-left.invariant.2 ∙ fill_whole c.args.pins c.loop-left.i c.loop-left.invariant.1 (omega arith)
