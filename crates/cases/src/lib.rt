@@ -150,6 +150,25 @@ fn read_words(bytes: &[u8], from: usize, list: &mut [u16], count: usize) -> usiz
     at
 }
 
+// As `read_words`, of bytes.
+fn read_bytes(bytes: &[u8], from: usize, list: &mut [u8], count: usize) -> usize
+    ensures { result ≤ farthest }
+{
+    let end = picture_numbers::least(count, list.len());
+    let mut i: usize = 0;
+    while i < end {
+        list[i] = byte_at(bytes, over(from, i));
+        i += 1;
+    }
+    let behind = over(from, end);
+    if end < list.len() {
+        let last = list.len() - 1;
+        list[end] = 7;
+        list[last] = 7;
+    }
+    behind
+}
+
 fn read_key(bytes: &[u8], at: usize) -> CacheKey
     ensures { result ≡ key_at bytes.now at }
 {
@@ -250,22 +269,25 @@ pub fn read_table(bytes: &[u8], at: usize) -> Table
     let records = read_slots(bytes, over(at, 80), capacity);
     let a = records.end;
     let mut heads: [u16; 512] = [0; 512];
+    let mut lengths: [u8; 512] = [0; 512];
     let mut next: [u16; 256] = [0; 256];
     let mut free: [u16; 256] = [0; 256];
     let mut positions: [u16; 256] = [0; 256];
     let buckets = low_8(bytes, a) as usize;
     let b = read_words(bytes, over(a, 8), &mut heads, buckets);
-    let c = read_words(bytes, b, &mut next, capacity);
-    let free_len = low_8(bytes, c) as usize;
-    let d = read_words(bytes, over(c, 8), &mut free, free_len);
-    let heap_len = low_8(bytes, d) as usize;
-    let heaped = read_entries(bytes, over(d, 8), heap_len);
-    let e = heaped.end;
-    let end = read_words(bytes, e, &mut positions, capacity);
+    let c = read_bytes(bytes, b, &mut lengths, buckets);
+    let d = read_words(bytes, c, &mut next, capacity);
+    let free_len = low_8(bytes, d) as usize;
+    let e = read_words(bytes, over(d, 8), &mut free, free_len);
+    let heap_len = low_8(bytes, e) as usize;
+    let heaped = read_entries(bytes, over(e, 8), heap_len);
+    let f = heaped.end;
+    let end = read_words(bytes, f, &mut positions, capacity);
     let slot_list = records.slots;
     let entries = heaped.entries;
     let index = Index {
         heads: heads,
+        lengths: lengths,
         buckets: buckets,
         next: next,
         free: free,

@@ -5,7 +5,7 @@
 // The gate of `maintain_capacity`: pauses, dirty pages, the pending mark and the generation. It is a value of its own beside the table; access and
 // resize go through it in crate `passage`. Every function works on any gate.
 ghost use Rattle.std.specs.Prelude.{◌≡◌};
-ghost use Rattle.gate.specs.Gate.{at_first, admits as admitsRule, turned_of, begin_pause, end_pause, begin_dirty, end_dirty};
+ghost use Rattle.gate.specs.Gate.{at_first, admits as admits_rule, turned_of, begin_pause, end_pause, begin_dirty, end_dirty};
 
 use basics::Done;
 
@@ -105,7 +105,7 @@ impl Gate {
 
     // Whether an access may load.
     pub fn admits(self, allow_load: bool) -> bool
-        ensures { result ≡ admitsRule self allow_load }
+        ensures { result ≡ admits_rule self allow_load }
     {
         if !allow_load {
             return false;

@@ -16,9 +16,11 @@ ghost use Rattle.index.specs.Fresh.{no_index, new_index};
 use basics::{Done, NONE, STOP};
 use key::{CacheKey, Count};
 
+// A length is of 8 bits: 64 fits, and an index is copied in every call.
 #[derive(Drop)]
 pub struct Index {
     pub heads: [u16; 512],
+    pub lengths: [u8; 512],
     pub buckets: usize,
     pub next: [u16; 256],
     pub free: [u16; 256],
@@ -56,11 +58,13 @@ impl Index {
         match counted {
             Count::Refused(why) => {
                 let heads: [u16; 512] = [0; 512];
+                let none: [u8; 512] = [0; 512];
                 let next: [u16; 256] = [0; 256];
                 let free: [u16; 256] = [0; 256];
                 Moved {
                     index: Index {
                         heads: heads,
+                        lengths: none,
                         buckets: 0,
                         next: next,
                         free: free,
@@ -71,11 +75,13 @@ impl Index {
             }
             Count::Of(buckets) => {
                 let heads = empty_heads(buckets);
+                let lengths: [u8; 512] = [0; 512];
                 let next = empty_next(capacity);
                 let free = full_stack(capacity);
                 Moved {
                     index: Index {
                         heads: heads,
+                        lengths: lengths,
                         buckets: buckets,
                         next: next,
                         free: free,
@@ -183,6 +189,24 @@ pub fn head<'a>(heads: &'a [u16; 512], buckets: usize, key: CacheKey) -> usize
         return 0;
     }
     basics::wide(all[bucket])
+}
+
+// The length kept for the key's chain. A bucket past the lengths gives 0.
+pub fn length_of<'a>(lengths: &'a [u8; 512], buckets: usize, key: CacheKey) -> usize
+    ensures { result ≡ get_or lengths.now (bucket_of key buckets) 0 }
+{
+    let all: &[u8] = lengths;
+    let place = key.bucket(buckets);
+    if all.len() <= place {
+        return 0;
+    }
+    wide_length(all[place])
+}
+
+fn wide_length(length: u8) -> usize
+    ensures { result ≡ length }
+{
+    length as usize
 }
 
 // The slot behind one in its chain. A slot past the places gives 0.

@@ -7,7 +7,7 @@ ghost use Rattle.std.specs.Prelude.{◌≡◌, true, ◌≤◌};
 ghost use Rattle.basics.specs.Try.{refuse};
 ghost use Rattle.state.specs.Fresh.{sound};
 ghost use Rattle.maintenance_reclaim.specs.Answers.{batch_after};
-ghost use Rattle.maintenance_reclaim.specs.Reclaim.{no_slots, reclaim_from, unless_refused as unlessStopped, reclaim as reclaimRule};
+ghost use Rattle.maintenance_reclaim.specs.Reclaim.{no_slots, reclaim_from, unless_refused as unless_stopped, reclaim as reclaim_rule};
 
 use basics::Done;
 use eviction::Cold;
@@ -40,7 +40,7 @@ fn unreclaimed(t: State, why: u8) -> Batch
 // So many rounds: a victim is looked for afresh and removed. A refusal in a later round gives up the earlier removals too.
 fn reclaim_rounds(t: State, rounds: usize, pins: &[u8]) -> Batch
     requires { (sound t ≡ true) × (rounds ≤ 64) }
-    ensures { batch_after result ≡ unlessStopped t (reclaim_from rounds pins.now (record { table = t; count = 0; slots = no_slots })) }
+    ensures { batch_after result ≡ unless_stopped t (reclaim_from rounds pins.now (record { table = t; count = 0; slots = no_slots })) }
 {
     let mut rest = t;
     let mut slots: [u16; 64] = [basics::NONE; 64];
@@ -88,7 +88,7 @@ fn reclaim_rounds(t: State, rounds: usize, pins: &[u8]) -> Batch
 
 // The Rust's `reclaim_batch`.
 pub fn reclaim(t: State, limit: usize, pins: &[u8]) -> Batch
-    ensures { batch_after result ≡ reclaimRule t limit pins.now }
+    ensures { batch_after result ≡ reclaim_rule t limit pins.now }
 {
     if !state::sound(
         t.capacity,

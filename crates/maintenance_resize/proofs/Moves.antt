@@ -15,7 +15,7 @@ use Rattle.basics.specs.Numbers.{NONE}
 use Rattle.basics.specs.Lists.{each_slot}
 use Rattle.basics.proofs.Tests.{yes!, no!, is, one_less_lem, no_ltb, some_ltb, met}
 use Rattle.key.specs.declared.CacheKey.{CacheKey}
-use Rattle.index.specs.Chain.{CHAIN, head_of, next_of}
+use Rattle.index.specs.Chain.{CHAIN, head_of, next_of, length_of, walked}
 use Rattle.eviction.specs.Entries.{at}
 use Rattle.state.specs.declared.State.{State}
 use Rattle.state.specs.Slots.{slot_at, clean_with}
@@ -56,11 +56,16 @@ peek_rest : (k : Bool) (c s x : ℕ) (r : Try (Option ℕ)) → s < c → (if k 
 peek_rest true c s x r l e f = let q : s ≡ x = cc in omega arith
 peek_rest false c s x r l e f = f e
 
-peek_far : (b : Bool) (c s : ℕ) (k : Bool) (x : ℕ) (r : Try (Option ℕ))
-    → (if b then ok none else if leb c s then refuse STOP else if k then ok (some s) else r) ≡ ok (some x)
+-- the end of a chain gives no slot
+end_none : (w : Bool) (x : ℕ) → (if w then ok none else refuse STOP) ≡ ok (some x) → ⊥
+end_none true x e = let z : ◌≡◌ {A = ℕ} 0 1 = cc in omega arith
+end_none false x e = let z : ◌≡◌ {A = ℕ} 0 1 = cc in omega arith
+
+peek_far : (b w : Bool) (c s : ℕ) (k : Bool) (x : ℕ) (r : Try (Option ℕ))
+    → (if b then (if w then ok none else refuse STOP) else if leb c s then refuse STOP else if k then ok (some s) else r) ≡ ok (some x)
     → (r ≡ ok (some x) → x < c) → x < c
-peek_far true c s k x r e f = let z : ◌≡◌ {A = ℕ} 0 1 = cc in absurd (omega arith)
-peek_far false c s k x r e f =
+peek_far true w c s k x r e f = absurd (end_none w x e)
+peek_far false w c s k x r e f =
     elim (is (leb c s)) [
       | yes! l ↦
           let q : refuse STOP ≡ ok (some x) = rw l at e in
@@ -69,15 +74,15 @@ peek_far false c s k x r e f =
       | no! l ↦ peek_rest k c s x r (leb-false c s l) (rw l at e) f
     ]
 
-peek_last : (b : Bool) (c x : ℕ) → (if b then ok none else refuse STOP) ≡ ok (some x) → x < c
-peek_last true c x e = let z : ◌≡◌ {A = ℕ} 0 1 = cc in absurd (omega arith)
-peek_last false c x e = let z : ◌≡◌ {A = ℕ} 0 1 = cc in absurd (omega arith)
+peek_last : (b w : Bool) (c x : ℕ) → (if b then (if w then ok none else refuse STOP) else refuse STOP) ≡ ok (some x) → x < c
+peek_last true w c x e = absurd (end_none w x e)
+peek_last false w c x e = let z : ◌≡◌ {A = ℕ} 0 1 = cc in absurd (omega arith)
 
 peek_from_low : (n : ℕ) (t : State) (key : CacheKey) (s x : ℕ) → peek_from n t key s ≡ ok (some x) → x < t.capacity
 unfolding peek_from
-peek_from_low zero t key s x e = peek_last (eqb s NONE) t.capacity x e
+peek_from_low zero t key s x e = peek_last (eqb s NONE) (walked (length_of t.index key) 0) t.capacity x e
 peek_from_low (suc n) t key s x e =
-    peek_far (eqb s NONE) t.capacity s (clean_with (slot_at t s) key) x _ e (λ q. peek_from_low n t key (next_of t.index s) x q)
+    peek_far (eqb s NONE) (walked (length_of t.index key) (suc n)) t.capacity s (clean_with (slot_at t s) key) x _ e (λ q. peek_from_low n t key (next_of t.index s) x q)
 
 pub peek_low : {x : ℕ} (t : State) (key : CacheKey) → peek_clean t key ≡ ok (some x) → x < 256
 unfolding peek_clean

@@ -7,7 +7,7 @@
 ghost use Rattle.std.specs.Prelude.{◌≡◌, true, ◌&&◌, eqb, ltb, ◌≤◌, ◌<◌, length, take};
 ghost use Rattle.state.specs.Fresh.{sound};
 ghost use Rattle.maintenance_resize.specs.Answers.{maintained_after};
-ghost use Rattle.maintenance_resize.specs.Resize.{unless_refused, resize_to, resize as resizeRule};
+ghost use Rattle.maintenance_resize.specs.Resize.{unless_refused, resize_to, resize as resize_rule};
 
 mod remake;
 
@@ -110,7 +110,7 @@ fn resize_to(t: State, pins: &[u8], list: &mut [u16], capacity: usize) -> Mainta
 
 // The Rust's `maintain_capacity` after its gate.
 pub fn resize(t: State, asked: usize, pins: &[u8], list: &mut [u16]) -> Maintained
-    ensures { maintained_after result list.new ≡ resizeRule t asked pins.now list.old }
+    ensures { maintained_after result list.new ≡ resize_rule t asked pins.now list.old }
 {
     if !state::sound(
         t.capacity,

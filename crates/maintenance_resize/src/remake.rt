@@ -9,7 +9,7 @@ ghost use Rattle.basics.specs.Lists.{each_slot};
 ghost use Rattle.state.specs.declared.State.{State};
 ghost use Rattle.state.specs.Fresh.{sound};
 ghost use Rattle.maintenance_resize.specs.Parts.{tried, old_answer, remade_answer};
-ghost use Rattle.maintenance_resize.specs.Move.{moving_of, leave_pinned, drop_oldest, restore_rest, move_rest, inherit as inheritRule, remake as remakeRule};
+ghost use Rattle.maintenance_resize.specs.Move.{moving_of, leave_pinned, drop_oldest, restore_rest, move_rest, inherit as inherit_rule, remake as remake_rule};
 
 use basics::Done;
 use maintenance_restore::restore::{Fit, restore};
@@ -233,7 +233,7 @@ fn move_rest(mut old: State, new: State, slots: [u16; 256]) -> Listed
 
 // The Rust's `inherit_history`.
 fn inherit(mut new: State, old: State) -> State
-    ensures { result ≡ inheritRule new old }
+    ensures { result ≡ inherit_rule new old }
 {
     let counters = old.counters;
     new.next_load_generation = old.next_load_generation;
@@ -245,7 +245,7 @@ fn inherit(mut new: State, old: State) -> State
 // From the new table with the pinned keys on: the steps that remake the table.
 pub(crate) fn remake(old: State, new: State) -> Listed
     requires { sound old ≡ true }
-    ensures { remade_answer old.capacity result ≡ remakeRule old new }
+    ensures { remade_answer old.capacity result ≡ remake_rule old new }
 {
     let left = leave_pinned(old, new);
     let out = left.answer;

@@ -5,7 +5,7 @@
 // maintenance.rs, what the pins of a resize say: how many there are, what capacity they need, and whether each is on a clean slot.
 ghost use Rattle.std.specs.Prelude.{◌≡◌, ◌≤◌, max, length};
 ghost use Rattle.basics.specs.Numbers.{power_over};
-ghost use Rattle.maintenance_restore.specs.Pins.{pin_count, pins_clean, raised as raisedTo};
+ghost use Rattle.maintenance_restore.specs.Pins.{pin_count, pins_clean, raised as raised_to};
 
 use key::Count;
 use state::State;
@@ -42,7 +42,7 @@ fn power_over(n: usize) -> usize
 // The asked capacity, raised to what the pinned slots need.
 pub fn raised(asked: usize, pins: &[u8]) -> usize
     requires { (asked ≤ 256) × (length pins.now ≤ 256) }
-    ensures value { result ≡ raisedTo asked pins.now }
+    ensures value { result ≡ raised_to asked pins.now }
     ensures lower_bound { (asked ≤ result) × (result ≤ 256) }
 {
     let pinned = pin_count(pins);

@@ -6,7 +6,7 @@
 ghost use Rattle.std.specs.Prelude.{◌≡◌, ◌≤◌, ◌<◌, length};
 ghost use Rattle.std.proofs.Math.Option.{some};
 ghost use Rattle.maintenance_restore.specs.Parts.{put, put_into, top_put, placed_answer, restored_answer};
-ghost use Rattle.maintenance_restore.specs.Restore.{restore as restoreRule, restore_pinned, candidate as candidateRule};
+ghost use Rattle.maintenance_restore.specs.Restore.{restore as restore_rule, restore_pinned, candidate as candidate_rule};
 
 use basics::Done;
 use eviction::EvictionHeap;
@@ -111,7 +111,7 @@ fn place(
 
 // The Rust's `restore_clean`.
 pub fn restore(mut t: State, key: CacheKey, last_access: u64) -> Restored
-    ensures { restored_answer result ≡ restoreRule t key last_access }
+    ensures { restored_answer result ≡ restore_rule t key last_access }
 {
     let index = t.index;
     let heap = t.eviction;
@@ -191,7 +191,7 @@ fn restore_pinned(old: State, pins: &[u8], fresh: State) -> Restored
 // twice the capacity is tried.
 pub fn candidate(old: State, pins: &[u8], shrinking: bool, capacity: usize) -> Restored
     requires { ((old.capacity ≤ 256) × (length pins.now ≡ old.capacity)) × ((0 < capacity) × (capacity ≤ 256)) }
-    ensures { restored_answer result ≡ candidateRule 9 old pins.now shrinking capacity }
+    ensures { restored_answer result ≡ candidate_rule 9 old pins.now shrinking capacity }
 {
     let mut size = capacity;
     let mut left: usize = 9;

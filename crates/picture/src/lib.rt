@@ -9,7 +9,8 @@ ghost use Rattle.picture.specs.Table.{slot_numbers, entry_numbers, index_numbers
 use eviction::{Entry, EvictionHeap};
 use index::Index;
 use picture_numbers::{
-    Walked, least, put, put_numbers, put_place, put_text, put_words, put_words_past, wider,
+    Walked, least, put, put_bytes, put_bytes_past, put_numbers, put_place, put_text, put_words,
+    put_words_past, wider,
 };
 use state::{Slot, State};
 
@@ -119,18 +120,20 @@ fn put_entries_past(out: &mut [u8], at: usize, entries: [Entry; 256], length: us
     walked.at
 }
 
-// Bucket count, heads, next, and the free stack.
+// Bucket count, heads, lengths of the chains, next, and the free stack.
 fn put_index(out: &mut [u8], at: usize, index: Index, capacity: usize) -> usize
     ensures { Wrote out.old at (spaced (index_numbers index capacity)) result out.new }
 {
     let heads = index.heads;
+    let lengths = index.lengths;
     let next = index.next;
     let free = index.free;
     let a = put(out, at, index.buckets as u64);
     let b = put_words(out, a, &heads, index.buckets);
-    let c = put_words(out, b, &next, capacity);
-    let d = put(out, c, index.free_len as u64);
-    put_words(out, d, &free, index.free_len)
+    let c = put_bytes(out, b, &lengths, index.buckets);
+    let d = put_words(out, c, &next, capacity);
+    let e = put(out, d, index.free_len as u64);
+    put_words(out, e, &free, index.free_len)
 }
 
 // The heap: its length, slot and last use of each place, and the places.
@@ -144,7 +147,7 @@ fn put_heap(out: &mut [u8], at: usize, heap: EvictionHeap, capacity: usize) -> u
     put_words(out, walked.at, &positions, capacity)
 }
 
-// A table: 2 to 9 of the trace.
+// A table: 2 to 10 of the trace.
 pub fn put_table(out: &mut [u8], at: usize, t: State) -> usize
     ensures { Wrote out.old at (spaced (table_numbers t)) result out.new }
 {
@@ -175,11 +178,13 @@ fn put_index_past(out: &mut [u8], at: usize, index: Index, capacity: usize) -> u
     ensures { Wrote out.old at (spaced (index_past index capacity)) result out.new }
 {
     let heads = index.heads;
+    let lengths = index.lengths;
     let next = index.next;
     let free = index.free;
     let a = put_words_past(out, at, &heads, index.buckets);
-    let b = put_words_past(out, a, &next, capacity);
-    put_words_past(out, b, &free, index.free_len)
+    let b = put_bytes_past(out, a, &lengths, index.buckets);
+    let c = put_words_past(out, b, &next, capacity);
+    put_words_past(out, c, &free, index.free_len)
 }
 
 // Of the heap.
@@ -192,7 +197,7 @@ fn put_heap_past(out: &mut [u8], at: usize, heap: EvictionHeap, capacity: usize)
     put_words_past(out, a, &positions, capacity)
 }
 
-// Of a table: 11 of the trace, without the pins.
+// Of a table: 12 of the trace, without the pins.
 pub fn put_past(out: &mut [u8], at: usize, t: State) -> usize
     ensures { Wrote out.old at (spaced (past_numbers t)) result out.new }
 {

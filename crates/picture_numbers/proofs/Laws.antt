@@ -53,6 +53,11 @@ joined {l} {m} {k} {a} {b} {i} {j} {n} v w =
 pub wrote_as : {l m a b : List ℕ} {i j : ℕ} → a ≡ b → Wrote l i a j m → Wrote l i b j m
 wrote_as {l} {m} {a} {b} {i} {j} e w = rw e at w
 
+-- a list of at most 512 places is written whole where its first 512 are
+pub wrote-whole : {l m : List ℕ} {i j : ℕ} (f : List ℕ → List ℕ) (list : List ℕ) → length list ≤ 512
+    → Wrote l i (f (take 512 list)) j m → Wrote l i (f list) j m
+wrote-whole f list h w = wrote_as (ap f (take_all 512 list h)) w
+
 -- nothing
 pub nothing : (l : List ℕ) (i : ℕ) → i ≤ length l → Wrote l i [] i l
 nothing l i h = record { bytes = refl; place = omega arith; size = refl }

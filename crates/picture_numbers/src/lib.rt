@@ -205,3 +205,42 @@ pub fn put_words_past(out: &mut [u8], at: usize, list: &[u16], length: usize) ->
     let walked = walk_words(out, a, list, length, list.len(), false);
     walked.at
 }
+
+fn wide(byte: u8) -> u16
+    ensures { result ≡ byte }
+{
+    byte as u16
+}
+
+// Bytes as words, in front of zeros: the first 512, since the longest list of a table has so many places.
+fn widened(list: &[u8]) -> [u16; 512]
+    ensures { take (min (length list.now) 512) result ≡ take 512 list.now }
+{
+    let mut words: [u16; 512] = [0; 512];
+    let mut i: usize = 0;
+    let mut left = least(list.len(), 512);
+    while 0 < left {
+        words[i] = wide(list[i]);
+        i += 1;
+        left -= 1;
+    }
+    words
+}
+
+// As `put_words`, of the first 512 bytes of a list: none of a table is longer.
+pub fn put_bytes(out: &mut [u8], at: usize, list: &[u8], count: usize) -> usize
+    ensures { Wrote out.old at (spaced (take count (take 512 list.now))) result out.new }
+{
+    let words = widened(list);
+    let places = least(list.len(), 512);
+    put_words(out, at, &words[..places], count)
+}
+
+// As `put_words_past`, of the first 512 bytes of a list.
+pub fn put_bytes_past(out: &mut [u8], at: usize, list: &[u8], from: usize) -> usize
+    ensures { Wrote out.old at (spaced (past word_numbers from (take 512 list.now))) result out.new }
+{
+    let words = widened(list);
+    let places = least(list.len(), 512);
+    put_words_past(out, at, &words[..places], from)
+}

@@ -3,7 +3,7 @@
 ghost use Rattle.std.specs.Prelude.{◌≡◌, ◌++◌, ◌+◌, ◌≤◌, length, take, drop};
 ghost use Rattle.basics.specs.Try.{if◌then◌else◌};
 ghost use Rattle.sheet_lines.specs.Words.{line_of, text_of};
-ghost use Rattle.sheet.specs.Run.{run_from, turns as turnsRule, ran_after};
+ghost use Rattle.sheet.specs.Run.{run_from, turns as turns_rule, ran_after};
 
 use sheet_lines::{Line, Said};
 use sheet_standing::Standing;
@@ -73,7 +73,7 @@ fn write_record(
 
 // How many records are read: as many as have room for a line each, while their number has room in 64 bits.
 fn turns(first: u64, room: usize) -> usize
-    ensures { result ≡ turnsRule first room }
+    ensures { result ≡ turns_rule first room }
 {
     let numbers = (basics::MAX - first) as usize;
     let lines = room / LINE;
@@ -85,7 +85,7 @@ fn turns(first: u64, room: usize) -> usize
 
 // The records of a block, from the number of the first on: as many as have room for a line each in `out`.
 pub fn run(standing: Standing, first: u64, bytes: &[u8], out: &mut [u8]) -> Ran
-    ensures out_after { ran_after result out.new ≡ run_from (turnsRule first (length out.old)) standing first bytes.now }
+    ensures out_after { ran_after result out.new ≡ run_from (turns_rule first (length out.old)) standing first bytes.now }
     ensures out_unchanged { drop result.written out.new ≡ drop result.written out.old }
     ensures out_len_unchanged { length out.new ≡ length out.old }
     ensures written_in_bounds { result.written ≤ length out.old }

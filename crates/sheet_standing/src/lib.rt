@@ -2,7 +2,7 @@
 
 // What stands between two records of a run sheet.
 ghost use Rattle.std.specs.Prelude.{◌≡◌};
-ghost use Rattle.sheet_standing.specs.Standing.{empty_place, start as startRule, afresh as afreshRule};
+ghost use Rattle.sheet_standing.specs.Standing.{empty_place, start as start_rule, afresh as afresh_rule};
 
 use key::CacheKey;
 use state::{LoadToken, State};
@@ -46,7 +46,7 @@ fn empty_place() -> Place
 
 // A new table, with no token and no pin.
 pub fn afresh(t: State) -> Standing
-    ensures { result ≡ afreshRule t }
+    ensures { result ≡ afresh_rule t }
 {
     let empty = empty_place();
     Standing {
@@ -59,7 +59,7 @@ pub fn afresh(t: State) -> Standing
 
 // Before the first record.
 pub fn start() -> Standing
-    ensures { result ≡ startRule }
+    ensures { result ≡ start_rule }
 {
     let refused = State::try_new(0);
     let none = refused.state;

@@ -7,7 +7,7 @@ ghost use Rattle.state.specs.Answers.{access_answer, found_answer};
 ghost use Rattle.state.specs.Remove.{need_clean};
 ghost use Rattle.maintenance_resize.specs.Answers.{size_answer};
 ghost use Rattle.sheet_steps.specs.Standing.{no_pins, says};
-ghost use Rattle.sheet_steps.specs.Steps.{clean_answer, say_access, say_done, say_found, say_removed, move_pins, say_size, say_count, step as stepRule};
+ghost use Rattle.sheet_steps.specs.Steps.{clean_answer, say_access, say_done, say_found, say_removed, move_pins, say_size, say_count, step as step_rule};
 
 use basics::Done;
 use maintenance_resize::Maintenance;
@@ -225,7 +225,7 @@ fn count_word(count: usize, answer: Done) -> Said
 // code would take and hand back what stands by value, two tables copied more. `s` is not changed, nor lent, nor reached by an index: so it is
 // handed to a call where it lies.
 pub fn step(s: Standing, bytes: &[u8]) -> Stepped
-    ensures { result ≡ stepRule s bytes.now }
+    ensures { result ≡ step_rule s bytes.now }
 {
     let read = sheet_lines::read_record(bytes);
     let Read::Whole(asked) = read else {

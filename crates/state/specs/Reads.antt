@@ -14,6 +14,7 @@ use Rattle.state.specs.declared.LoadToken.{LoadToken}
 use Rattle.state.specs.Slots.{slot_at, is_clean, clean_with}
 use Rattle.state.specs.Answers.{KeyUse}
 use Rattle.state.specs.Fresh.{sound}
+use Rattle.state.specs.Find.{ended}
 use Rattle.state.specs.Tokens.{outstanding}
 
 -- `validate`
@@ -25,9 +26,9 @@ validate t k = do
 
 -- `peek_clean`: the slot of the chain, from `slot` on, that is clean with the key
 unfoldable pub peek_from : ℕ → State → CacheKey → ℕ → Try (Option ℕ)
-peek_from zero t key slot = if eqb slot NONE then ok none else refuse STOP
+peek_from zero t key slot = if eqb slot NONE then ended t.index key 0 else refuse STOP
 peek_from (suc left) t key slot =
-    if eqb slot NONE then ok none else
+    if eqb slot NONE then ended t.index key (suc left) else
     if leb t.capacity slot then refuse STOP else
     if clean_with (slot_at t slot) key then ok (some slot) else
     peek_from left t key (next_of t.index slot)

@@ -7,7 +7,7 @@
 ghost use Rattle.std.specs.Prelude.{◌≡◌};
 ghost use Rattle.basics.specs.Try.{refuse};
 ghost use Rattle.state.specs.Answers.{accessed_after};
-ghost use Rattle.state.specs.Access.{count_load, free as freeRule, access as accessRule};
+ghost use Rattle.state.specs.Access.{count_load, free as free_rule, access as access_rule};
 ghost use Rattle.state_access.specs.Answers.{freed_answer};
 
 use basics::Done;
@@ -35,7 +35,7 @@ fn free(
     slot: usize,
     previous: Slot,
 ) -> Freed
-    ensures { freed_answer result ≡ freeRule capacity index heap clean slot previous }
+    ensures { freed_answer result ≡ free_rule capacity index heap clean slot previous }
 {
     if previous.kind == state::LOADING {
         return kept(index, heap, basics::STOP);
@@ -58,7 +58,7 @@ fn free(
         return kept(index, heap, why);
     }
     let key = previous.key;
-    let cut = index_chains::remove(index, capacity, key, slot);
+    let cut = index_remove::remove(index, capacity, key, slot);
     let off = cut.answer;
     if let Done::Refused(why) = off {
         return kept(index, heap, why);
@@ -104,7 +104,7 @@ fn count_load(left: bool, counters: Counters) -> Counters
 // The Rust's `access_with_victim`, with pin bytes for its closure. The walk along the chain and the reservation stand here, because a function
 // of their own would take the table by value, which copies it.
 pub fn access(mut t: State, key: CacheKey, allow_load: bool, pins: &[u8]) -> Accessed
-    ensures { accessed_after result ≡ accessRule t key allow_load pins.now }
+    ensures { accessed_after result ≡ access_rule t key allow_load pins.now }
 {
     if !state::sound(
         t.capacity,
@@ -182,6 +182,13 @@ pub fn access(mut t: State, key: CacheKey, allow_load: bool, pins: &[u8]) -> Acc
         }
         slot = index::next_in_chain(&t.index.next, slot);
         left -= 1;
+    }
+    let counted = index_chains::walked(&t.index.lengths, t.index.buckets, key, left);
+    if !counted {
+        return Accessed {
+            state: t,
+            answer: Access::Refused(basics::STOP),
+        };
     }
     let index = t.index;
     let heap = t.eviction;

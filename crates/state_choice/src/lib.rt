@@ -5,9 +5,9 @@
 // state/mod.rs, the choice of the slot that an absent key is loaded into: the top of the free stack, else a victim. Every function works on any
 // index, heap and pin bytes.
 ghost use Rattle.std.specs.Prelude.{◌≡◌};
-ghost use Rattle.state.specs.Access.{choose as chooseRule};
+ghost use Rattle.state.specs.Access.{choose as choose_rule};
 ghost use Rattle.eviction.specs.Answers.{cold_answer};
-ghost use Rattle.state.specs.Victim.{victim as victimRule, target as targetRule};
+ghost use Rattle.state.specs.Victim.{victim as victim_rule, target as target_rule};
 
 use eviction::{Cold, EvictionHeap};
 use index::{Index, Room, Top};
@@ -18,7 +18,7 @@ pub const PLACES: usize = 64;
 
 // The first unpinned slot among the first min(clean, 64) heap places.
 pub fn victim(capacity: usize, heap: EvictionHeap, clean: usize, pins: &[u8]) -> Cold
-    ensures { cold_answer result ≡ victimRule capacity heap clean pins.now }
+    ensures { cold_answer result ≡ victim_rule capacity heap clean pins.now }
 {
     if clean < PLACES {
         return heap.victim(capacity, clean, pins);
@@ -28,7 +28,7 @@ pub fn victim(capacity: usize, heap: EvictionHeap, clean: usize, pins: &[u8]) ->
 
 // The top of the free stack, else a victim.
 fn target(capacity: usize, index: Index, heap: EvictionHeap, clean: usize, pins: &[u8]) -> Cold
-    ensures { cold_answer result ≡ targetRule capacity index heap clean pins.now }
+    ensures { cold_answer result ≡ target_rule capacity index heap clean pins.now }
 {
     let top = index.vacant(capacity);
     match top {
@@ -48,7 +48,7 @@ pub fn choose(
     allow_load: bool,
     pins: &[u8],
 ) -> Cold
-    ensures { cold_answer result ≡ chooseRule capacity index heap clean key allow_load pins.now }
+    ensures { cold_answer result ≡ choose_rule capacity index heap clean key allow_load pins.now }
 {
     if !allow_load {
         return Cold::Nothing;

@@ -5,7 +5,7 @@
 // state/mod.rs, lookup. It works on any table; a refusal hands the table back as it came.
 ghost use Rattle.std.specs.Prelude.{◌≡◌};
 ghost use Rattle.state.specs.Answers.{looked_after};
-ghost use Rattle.state.specs.Lookup.{lookup as lookupRule};
+ghost use Rattle.state.specs.Lookup.{lookup as lookup_rule};
 
 use basics::Done;
 use key::CacheKey;
@@ -13,7 +13,7 @@ use state::{Found, Looked, Slot, State};
 
 // The walk along the chain stands here: a function of its own would take the table by value, which copies it.
 pub fn lookup(mut t: State, key: CacheKey) -> Looked
-    ensures { looked_after result ≡ lookupRule t key }
+    ensures { looked_after result ≡ lookup_rule t key }
 {
     if !state::sound(
         t.capacity,
@@ -84,6 +84,13 @@ pub fn lookup(mut t: State, key: CacheKey) -> Looked
         }
         here = index::next_in_chain(&t.index.next, here);
         steps -= 1;
+    }
+    let counted = index_chains::walked(&t.index.lengths, t.index.buckets, key, steps);
+    if !counted {
+        return Looked {
+            state: t,
+            answer: Found::Refused(basics::STOP),
+        };
     }
     Looked {
         state: t,

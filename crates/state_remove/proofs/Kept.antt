@@ -13,7 +13,7 @@ use Rattle.basics.proofs.Tests.{yes!, no!, is, and_right, met, went, ok_same}
 use Rattle.key.specs.declared.CacheKey.{CacheKey}
 use Rattle.key.specs.Bucket.{bucket_of, bucket_count}
 use Rattle.index.specs.declared.Index.{Index}
-use Rattle.index.specs.Chain.{CHAIN, sized, head_of, next_of, unlinked, remove_from, remove_index}
+use Rattle.index.specs.Chain.{CHAIN, sized, head_of, next_of, length_of, unlinked, remove_from, remove_index}
 use Rattle.index.specs.Free.{release_index, vacate}
 use Rattle.index.proofs.Cases.{has_sizes}
 use Rattle.eviction.specs.declared.EvictionHeap.{EvictionHeap}
@@ -102,8 +102,9 @@ unfolding vacate remove_index
 vacated c ix key slot k e =
     let a = went (remove_index c ix key slot) _ k e in
     let b = met (sized c ix) STOP _ a.0 a.1 in
+    let l = met (ltb 0 (length_of ix key)) STOP _ a.0 b.1 in
     let r = released c a.0 slot k a.2 in
-    (r.0 ∙ cut_keeps CHAIN c ix (bucket_of key ix.buckets) slot NONE (head_of ix key) a.0 b.1, r.1)
+    (r.0 ∙ cut_keeps CHAIN c ix (bucket_of key ix.buckets) slot NONE (head_of ix key) a.0 l.1, r.1)
 
 -- ---- the table
 

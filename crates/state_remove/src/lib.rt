@@ -48,7 +48,7 @@ fn detach_counted(mut t: State, slot: usize, counters: Counters) -> Finished
     }
     let index = t.index;
     let key = entry.key;
-    let vacated = index_chains::vacate(t.capacity, index, key, slot);
+    let vacated = index_remove::vacate(t.capacity, index, key, slot);
     let freed = vacated.answer;
     if let Done::Refused(why) = freed {
         return refused(t, why);

@@ -1,7 +1,7 @@
 -- SPDX-License-Identifier: Apache-2.0
 -- What the proofs of the searches share and callers cite: the walks one step on, the walk in place, and the ends of `seek`. Assumes nothing.
 use Prim.Native.Nat.{ℕ, zero, suc, ◌+◌, ◌-◌, ◌≤◌, ◌<◌}
-use mathlib.Core.Path.{◌≡◌, refl, sym, ◌∙◌, ap}
+use mathlib.Core.Path.{◌≡◌, refl, ◌∙◌, ap}
 use mathlib.Core.Bool.{true, false, not}
 use mathlib.Core.Option.{Option, none, some}
 use native.Mathlib.Omega.{arith}
@@ -13,14 +13,14 @@ use Rattle.basics.specs.Numbers.{NONE, MAX}
 use Rattle.basics.proofs.Tests.{yes!, no!, is, one_less_lem, met}
 use Rattle.key.specs.declared.CacheKey.{CacheKey}
 use Rattle.key.specs.Key.{same_key}
-use Rattle.index.specs.Chain.{CHAIN, head_of, next_of}
+use Rattle.index.specs.Chain.{CHAIN, head_of, next_of, length_of, walked}
 use Rattle.eviction.specs.declared.EvictionHeap.{EvictionHeap}
 use Rattle.state.specs.declared.State.{State}
 use Rattle.state.specs.Slots.{slot_at, occupied, clean_with, clean_slot}
 use Rattle.state.specs.Parts.{with_slot, with_heap, with_numbers, with_counters, count_hit, count_progress}
 use Rattle.state.specs.Answers.{After, told, unless_refused}
 use Rattle.state.specs.Fresh.{sound}
-use Rattle.state.specs.Find.{find_from, find_key, Seek, found, waits, absent, touch_next, hit_at, seek_at, seek}
+use Rattle.state.specs.Find.{ended, find_from, find_key, Seek, found, waits, absent, touch_next, hit_at, seek_at, seek}
 use Rattle.state.specs.Lookup.{found_seen, lookup}
 use Rattle.state.specs.Reads.{peek_from}
 use Rattle.state.proofs.Cases.{sound_sizes_lem}
@@ -28,7 +28,7 @@ use Rattle.state.proofs.Cases.{sound_sizes_lem}
 -- ---- the walks along a chain, one step on, and at their end
 find_step : (n : ℕ) (t : State) (key : CacheKey) (s : ℕ) → 0 < n
     → find_from n t key s
-    ≡ (if eqb s NONE then ok none else
+    ≡ (if eqb s NONE then ended t.index key n else
     if leb t.capacity s then refuse STOP else
     if not (occupied (slot_at t s)) then refuse STOP else
     if same_key (slot_at t s).key key then ok (some s) else
@@ -37,25 +37,30 @@ unfolding find_from
 find_step zero t key s l = absurd (omega arith)
 find_step (suc n) t key s l = rw (one_less_lem n)
 
-find_end : (n : ℕ) (t : State) (key : CacheKey) (s : ℕ) → n ≤ 0 → find_from n t key s ≡ (if eqb s NONE then ok none else refuse STOP)
+find_end : (n : ℕ) (t : State) (key : CacheKey) (s : ℕ) → n ≤ 0 → find_from n t key s ≡ (if eqb s NONE then ended t.index key n else refuse STOP)
 unfolding find_from
 find_end zero t key s l = refl
 find_end (suc n) t key s l = absurd (omega arith)
 
-pub peek_step : (n : ℕ) (t : State) (key : CacheKey) (s : ℕ) → 0 < n
+pub peek_step : (n : ℕ) (t : State) (key : CacheKey) (s : ℕ) → (n ≡ 0 → ⊥)
     → peek_from n t key s
-    ≡ (if eqb s NONE then ok none else
+    ≡ (if eqb s NONE then ended t.index key n else
     if leb t.capacity s then refuse STOP else
     if clean_with (slot_at t s) key then ok (some s) else
     peek_from (n - 1) t key (next_of t.index s))
 unfolding peek_from
-peek_step zero t key s l = absurd (omega arith)
+peek_step zero t key s l = absurd (l refl)
 peek_step (suc n) t key s l = rw (one_less_lem n)
 
-pub peek_end : (n : ℕ) (t : State) (key : CacheKey) (s : ℕ) → n ≤ 0 → peek_from n t key s ≡ (if eqb s NONE then ok none else refuse STOP)
+pub peek_end : (n : ℕ) (t : State) (key : CacheKey) (s : ℕ) → n ≡ 0 → peek_from n t key s ≡ (if eqb s NONE then ended t.index key n else refuse STOP)
 unfolding peek_from
 peek_end zero t key s l = refl
 peek_end (suc n) t key s l = absurd (omega arith)
+
+pub peek-none : (n : ℕ) (t : State) (key : CacheKey) (s : ℕ) → s ≡ NONE → peek_from n t key s ≡ ended t.index key n
+unfolding peek_from
+peek-none zero t key s e = rw (eq-eqb _ _ e)
+peek-none (suc n) t key s e = rw (eq-eqb _ _ e)
 
 -- ---- the walk that lookup and access make in place
 
@@ -70,7 +75,7 @@ pub record Walking (key : CacheKey) (t₀ t : State) (slot left : ℕ) : Type 0 
   pub whole : sound t ≡ true
   pub rest : find_from left t key slot ≡ find_key t key
 
-find_none : (n : ℕ) (t : State) (key : CacheKey) (s : ℕ) → s ≡ NONE → find_from n t key s ≡ ok none
+find_none : (n : ℕ) (t : State) (key : CacheKey) (s : ℕ) → s ≡ NONE → find_from n t key s ≡ ended t.index key n
 unfolding find_from
 find_none zero t key s e = rw (eq-eqb _ _ e)
 find_none (suc n) t key s e = rw (eq-eqb _ _ e)
@@ -87,8 +92,12 @@ module _ {key : CacheKey} {t₀ t : State} {s n : ℕ} (w : Walking key t₀ t s
   pub walk_in : s < t.capacity → s < 256
   walk_in l = let f = (sound_sizes_lem w.whole).small in omega (arith, f, l)
 
-  pub walk_ends : s ≡ NONE → find_key t key ≡ ok none
-  walk_ends e = sym w.rest ∙ find_none n t key s e
+  -- at the end of the chain the length kept for it decides
+  pub walk_ends : s ≡ NONE → walked (length_of t.index key) n ≡ true → find_key t key ≡ ok none
+  walk_ends e k = rw (← w.rest, find_none n t key s e, k)
+
+  pub walk-differs : s ≡ NONE → walked (length_of t.index key) n ≡ false → find_key t key ≡ refuse STOP
+  walk-differs e k = rw (← w.rest, find_none n t key s e, k)
 
   module _ (a : s ≡ NONE → ⊥) where
     pub walk_long : n ≡ 0 → find_key t key ≡ refuse STOP

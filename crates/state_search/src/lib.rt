@@ -64,9 +64,9 @@ pub fn peek_clean(t: State, key: CacheKey) -> Found
     }
     let mut at = index::head(&t.index.heads, t.index.buckets, key);
     let mut left: usize = index_chains::MAX_CHAIN;
-    while 0 < left {
-        if at == basics::NO_SLOT {
-            return Found::Nothing;
+    while at != basics::NO_SLOT {
+        if left == 0 {
+            return Found::Refused(basics::STOP);
         }
         if t.capacity <= at {
             return Found::Refused(basics::STOP);
@@ -78,9 +78,8 @@ pub fn peek_clean(t: State, key: CacheKey) -> Found
         at = index::next_in_chain(&t.index.next, at);
         left -= 1;
     }
-    if at == basics::NO_SLOT {
-        Found::Nothing
-    } else {
-        Found::Refused(basics::STOP)
+    if index_chains::walked(&t.index.lengths, t.index.buckets, key, left) {
+        return Found::Nothing;
     }
+    Found::Refused(basics::STOP)
 }

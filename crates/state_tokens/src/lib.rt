@@ -6,7 +6,7 @@
 ghost use Rattle.std.specs.Prelude.{◌≡◌};
 ghost use Rattle.basics.specs.Try.{refuse};
 ghost use Rattle.state.specs.Answers.{finished_after, unless_refused};
-ghost use Rattle.state.specs.Tokens.{publish as publishRule, abort as abortRule};
+ghost use Rattle.state.specs.Tokens.{publish as publish_rule, abort as abort_rule};
 
 use basics::Done;
 use state::{Finished, LoadToken, Slot, State};
@@ -22,7 +22,7 @@ fn stopped(t: State, why: u8) -> Finished
 
 // The slot becomes clean with the token's use number.
 pub fn publish(mut t: State, token: LoadToken) -> Finished
-    ensures { finished_after result ≡ publishRule t token }
+    ensures { finished_after result ≡ publish_rule t token }
 {
     if !state::sound(
         t.capacity,
@@ -75,7 +75,7 @@ pub fn publish(mut t: State, token: LoadToken) -> Finished
 
 // The slot is free again.
 pub fn abort(mut t: State, token: LoadToken) -> Finished
-    ensures { finished_after result ≡ abortRule t token }
+    ensures { finished_after result ≡ abort_rule t token }
 {
     if !state::sound(
         t.capacity,
@@ -95,7 +95,7 @@ pub fn abort(mut t: State, token: LoadToken) -> Finished
     }
     let index = t.index;
     let key = token.key;
-    let vacated = index_chains::vacate(t.capacity, index, key, slot);
+    let vacated = index_remove::vacate(t.capacity, index, key, slot);
     let answer = vacated.answer;
     if let Done::Refused(why) = answer {
         return stopped(t, why);

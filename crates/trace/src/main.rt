@@ -40,38 +40,16 @@ fn put_line(out: &mut [u8], at: usize, line: Line) -> usize
     put_but_last(out, at, &bytes, line.from)
 }
 
-fn wide(byte: u8) -> u16
-    ensures { result ≡ byte }
-{
-    byte as u16
-}
-
-// The pins, as numbers of 16 bits.
-fn pin_words(pins: [u8; 256]) -> [u16; 256]
-    ensures { result ≡ pins }
-{
-    let mut words: [u16; 256] = [0; 256];
-    let mut i: usize = 0;
-    let mut left: usize = 256;
-    while 0 < left {
-        words[i] = wide(pins[i]);
-        i += 1;
-        left -= 1;
-    }
-    words
-}
-
 // The table and the pins, and of both what stands past the lengths.
 fn put_standing(out: &mut [u8], at: usize, s: Standing) -> usize
     ensures { Wrote out.old at (spaced (standing_numbers s)) result out.new }
 {
     let t = s.state;
-    let bytes = s.pins;
-    let pins = pin_words(bytes);
+    let pins = s.pins;
     let a = picture::put_table(out, at, t);
-    let b = picture_numbers::put_words(out, a, &pins, t.capacity);
+    let b = picture_numbers::put_bytes(out, a, &pins, t.capacity);
     let c = picture::put_past(out, b, t);
-    picture_numbers::put_words_past(out, c, &pins, t.capacity)
+    picture_numbers::put_bytes_past(out, c, &pins, t.capacity)
 }
 
 // The text of a record: its line, and but for a bad one what stands after it.

@@ -9,8 +9,8 @@ use Rattle.state.specs.declared.State.{State}
 use Rattle.state.specs.Find.{touch_next}
 use Rattle.state.specs.Access.{load_into}
 use Rattle.state.proofs.Cases.{sound_sizes_lem, heap_told, index_told}
-use Rattle.state_search.proofs.Cases.{walk_starts, walk_in, walk_ends, walk_long, walk_astray, walk_vacant, walk_meets, walk_on, seek_refused, seek_absent}
-use Rattle.state_search.proofs.Cases.{seek_waits, seek_stops, seek_hits, touched_next}
+use Rattle.state_search.proofs.Cases.{walk_starts, walk_in, walk_ends, walk-differs, walk_long, walk_astray, walk_vacant, walk_meets, walk_on}
+use Rattle.state_search.proofs.Cases.{seek_refused, seek_absent, seek_waits, seek_stops, seek_hits, touched_next}
 use Rattle.state_choice.proofs.Cases.{chosen_told}
 use Rattle.state_access.proofs.Cases.{freed_told, PinnedWalk, came, access_unsound, access_unpinned, access_stopped, access_waits, access_hits}
 use Rattle.state_access.proofs.Cases.{access_unchosen, access_busy, access_reserves, access_unreserved, no_generation, no_use, no_slot, not_freed}
@@ -98,8 +98,8 @@ add-sequence c =
       l,
     )
 
-mul-t65 : tie.Need-overflow-mul-t65 invariant-loop decreases-loop
-mul-t65 c =
+mul-t66 : tie.Need-overflow-mul-t66 invariant-loop decreases-loop
+mul-t66 c =
     let l = walk_in c.before.before.before.before.before.before.before.before.before.before.before.before.before.before.before.before.loop.invariant.walk
     c.before.before.before.before.before.before.before.before.before.before.before.before.before.if4.false in
     omega (arith, l)
@@ -139,162 +139,156 @@ loop-again c =
 
 returns-9 : tie.Need-returns-9 invariant-loop decreases-loop
 returns-9 c =
-    let inv = c.before.before.before.before.before.before.before.loop.invariant in
-    came _ _ _ inv.walk.same (access_unchosen _ _ _ _ inv.walk.whole inv.pinned
-    (seek_absent _ _ (walk_ends inv.walk c.before.before.before.before.before.before.loop-test.false))
-    (chosen_told c.before.before.before.choose.ensures c.before.chosen.given.1))
+    let inv = c.before.before.before.before.before.loop.invariant in
+    came _ _ _ inv.walk.same (access_stopped _ _ _ _ inv.walk.whole inv.pinned
+    (seek_refused _ _ (walk-differs inv.walk c.before.before.before.before.loop-test.false (no c.before.walked.ensures c.if8.true))))
 
 returns-10 : tie.Need-returns-10 invariant-loop decreases-loop
 returns-10 c =
-    let inv = c.before.before.before.before.before.before.before.before.loop.invariant in
-    came _ _ _ inv.walk.same (access_busy _ _ _ _ inv.walk.whole inv.pinned
-    (seek_absent _ _ (walk_ends inv.walk c.before.before.before.before.before.before.before.loop-test.false))
-    (chosen_told c.before.before.before.before.choose.ensures c.before.before.enum-told2.given.1)
-    c.before.one-more3.ensures)
+    let inv = c.before.before.before.before.before.before.before.before.before.before.before.loop.invariant in
+    came _ _ _ inv.walk.same (access_unchosen _ _ _ _ inv.walk.whole inv.pinned
+    (seek_absent _ _ (walk_ends inv.walk c.before.before.before.before.before.before.before.before.before.before.loop-test.false (yes c.before.before.before.before.before.before.before.walked.ensures c.before.before.before.before.before.before.if8.false)))
+    (chosen_told c.before.before.before.choose.ensures c.before.chosen.given.1))
 
 returns-11 : tie.Need-returns-11 invariant-loop decreases-loop
 returns-11 c =
-    let inv = c.before.before.before.before.before.before.before.before.loop.invariant in
-    came _ _ _ inv.walk.same (access_unreserved _ _ _ _ inv.walk.whole inv.pinned
-    (seek_absent _ _ (walk_ends inv.walk c.before.before.before.before.before.before.before.loop-test.false))
-    (chosen_told c.before.before.before.before.choose.ensures c.before.before.chosen2.given.1)
-    (no_generation _ _ _ c.if8.true))
-
-add-generation : tie.Need-overflow-add-generation invariant-loop decreases-loop
-add-generation c =
-    let e = ap (λ (s : State). s.next_load_generation) c.before.before.before.before.before.before.before.before.loop.invariant.walk.same in
-    let l = c.if8.false in
-    omega (
-      arith,
-      c.before.before.before.before.before.before.before.before.before.before.before.before.before.before.before.before.well-formed,
-      e,
-      l,
-    )
+    let inv = c.before.before.before.before.before.before.before.before.before.before.before.before.loop.invariant in
+    came _ _ _ inv.walk.same (access_busy _ _ _ _ inv.walk.whole inv.pinned
+    (seek_absent _ _ (walk_ends inv.walk c.before.before.before.before.before.before.before.before.before.before.before.loop-test.false (yes c.before.before.before.before.before.before.before.before.walked.ensures c.before.before.before.before.before.before.before.if8.false)))
+    (chosen_told c.before.before.before.before.choose.ensures c.before.before.enum-told2.given.1)
+    c.before.one-more3.ensures)
 
 returns-12 : tie.Need-returns-12 invariant-loop decreases-loop
 returns-12 c =
-    let inv = c.before.before.before.before.before.before.before.before.before.loop.invariant in
-    came _ _ _ inv.walk.same (no_use _ _ _ c.before.if8.false c.if9.true
-    ∙ access_reserves _ _ _ _ inv.walk.whole inv.pinned
-    (seek_absent _ _ (walk_ends inv.walk c.before.before.before.before.before.before.before.before.loop-test.false))
-    (chosen_told c.before.before.before.before.before.choose.ensures c.before.before.before.chosen2.given.1))
+    let inv = c.before.before.before.before.before.before.before.before.before.before.before.before.loop.invariant in
+    came _ _ _ inv.walk.same (access_unreserved _ _ _ _ inv.walk.whole inv.pinned
+    (seek_absent _ _ (walk_ends inv.walk c.before.before.before.before.before.before.before.before.before.before.before.loop-test.false (yes c.before.before.before.before.before.before.before.before.walked.ensures c.before.before.before.before.before.before.before.if8.false)))
+    (chosen_told c.before.before.before.before.choose.ensures c.before.before.chosen2.given.1)
+    (no_generation _ _ _ c.if9.true))
 
-add-sequence-2 : tie.Need-overflow-add-sequence-2 invariant-loop decreases-loop
-add-sequence-2 c =
-    let e = ap (λ (s : State). s.next_access_sequence)
-    c.before.before.before.before.before.before.before.before.before.loop.invariant.walk.same in
+add-generation : tie.Need-overflow-add-generation invariant-loop decreases-loop
+add-generation c =
+    let e = ap (λ (s : State). s.next_load_generation) c.before.before.before.before.before.before.before.before.before.before.before.before.loop.invariant.walk.same in
     let l = c.if9.false in
     omega (
       arith,
-      c.before.before.before.before.before.before.before.before.before.before.before.before.before.before.before.before.before.well-formed,
+      c.before.before.before.before.before.before.before.before.before.before.before.before.before.before.before.before.before.before.before.before.well-formed,
       e,
       l,
     )
 
 returns-13 : tie.Need-returns-13 invariant-loop decreases-loop
 returns-13 c =
-    let before6 = c.before.before.before.before.before.before in
-    let inv = before6.before.before.before.before.loop.invariant in
-    came _ _ _ inv.walk.same (access_unreserved _ _ _ _ inv.walk.whole inv.pinned
-    (seek_absent _ _ (walk_ends inv.walk before6.before.before.before.loop-test.false))
-    (chosen_told before6.choose.ensures c.before.before.before.before.chosen2.given.1)
-    (no_slot _ _ _ c.before.before.if8.false c.before.if9.false c.if10.true))
+    let inv = c.before.before.before.before.before.before.before.before.before.before.before.before.before.loop.invariant in
+    came _ _ _ inv.walk.same (no_use _ _ _ c.before.if9.false c.if10.true
+    ∙ access_reserves _ _ _ _ inv.walk.whole inv.pinned
+    (seek_absent _ _ (walk_ends inv.walk c.before.before.before.before.before.before.before.before.before.before.before.before.loop-test.false (yes c.before.before.before.before.before.before.before.before.before.walked.ensures c.before.before.before.before.before.before.before.before.if8.false)))
+    (chosen_told c.before.before.before.before.before.choose.ensures c.before.before.before.chosen2.given.1))
 
-mul-previous : tie.Need-overflow-mul-previous invariant-loop decreases-loop
-mul-previous c =
-    let f = (sound_sizes_lem c.before.before.before.before.before.before.before.before.before.before.loop.invariant.walk.whole).small in
+add-sequence-2 : tie.Need-overflow-add-sequence-2 invariant-loop decreases-loop
+add-sequence-2 c =
+    let e = ap (λ (s : State). s.next_access_sequence)
+    c.before.before.before.before.before.before.before.before.before.before.before.before.before.loop.invariant.walk.same in
     let l = c.if10.false in
-    omega (arith, f, l)
-
-element-copy-out-previous : tie.Need-element-copy-out-previous invariant-loop decreases-loop
-element-copy-out-previous c =
-    let f = (sound_sizes_lem c.before.before.before.before.before.before.before.before.before.before.loop.invariant.walk.whole).small in
-    let l = c.if10.false in
-    omega (arith, f, l)
-
-returns-14 : tie.Need-returns-14 invariant-loop decreases-loop
-returns-14 c =
-    let before6 = c.before.before.before.before.before.before in
-    let before12 = before6.before.before.before.before.before.before in
-    let inv = before12.before.before.before.loop.invariant in
-    came _ _ _ inv.walk.same (access_unreserved _ _ _ _ inv.walk.whole inv.pinned
-    (seek_absent _ _ (walk_ends inv.walk before12.before.before.loop-test.false))
-    (chosen_told before6.before.before.before.before.before.choose.ensures before6.before.before.before.chosen2.given.1)
-    (not_freed _ _ _ before6.before.if8.false before6.if9.false c.before.before.before.before.before.if10.false
-    (freed_told _ c.before.before.before.free.ensures c.before.answer2.given.1)))
-
-returns-15 : tie.Need-returns-15 invariant-loop decreases-loop
-returns-15 c =
-    let before6 = c.before.before.before.before.before.before in
-    let before12 = before6.before.before.before.before.before.before in
-    let before18 = before12.before.before.before.before.before.before in
-    let inv = before18.before.loop.invariant in
-    came _ _ _ inv.walk.same
-    (access_unreserved _ _ _ _ inv.walk.whole inv.pinned (seek_absent _ _ (walk_ends inv.walk before18.loop-test.false))
-    (chosen_told before12.before.before.before.choose.ensures before12.before.chosen2.given.1)
-    (not_linked _ _ _ before6.before.before.before.before.before.if8.false before6.before.before.before.before.if9.false
-    before6.before.before.before.if10.false
-    (freed_told _ before6.before.free.ensures c.before.before.before.before.before.enum-told3.given.1)
-    (index_told _ (insert_index _ _ _ _) c.before.before.before.insert.ensures c.before.put.given.1)))
-
-returns-16 : tie.Need-returns-16 invariant-loop decreases-loop
-returns-16 c =
-    let before6 = c.before.before.before.before.before.before in
-    let before12 = before6.before.before.before.before.before.before in
-    let before18 = before12.before.before.before.before.before.before in
-    let inv = before18.before.loop.invariant in
-    came _ _ _ inv.walk.same
-    (access_unreserved _ _ _ _ inv.walk.whole inv.pinned (seek_absent _ _ (walk_ends inv.walk before18.loop-test.false))
-    (chosen_told before12.before.before.before.choose.ensures before12.before.chosen2.given.1)
-    (not_counted _ _ _ before6.before.before.before.before.before.if8.false before6.before.before.before.before.if9.false
-    before6.before.before.before.if10.false
-    (freed_told _ before6.before.free.ensures c.before.before.before.before.before.enum-told3.given.1)
-    (index_told _ (insert_index _ _ _ _) c.before.before.before.insert.ensures c.before.enum-told4.given.1) c.if11.true))
-
-add-t : tie.Need-overflow-add-t invariant-loop decreases-loop
-add-t c =
-    let e = ap (λ (s : State). s.loading) c.before.before.before.before.before.before.before.before.before.before.before.before.before.before.before.before.before.before.before.before.before.before.loop.invariant.walk.same in
-    let l = c.before.before.before.if11.false in
     omega (
       arith,
-      c.before.before.before.before.before.before.before.before.before.before.before.before.before.before.before.before.before.before.before.before.before.before.before.before.before.before.before.before.before.before.well-formed,
+      c.before.before.before.before.before.before.before.before.before.before.before.before.before.before.before.before.before.before.before.before.before.well-formed,
       e,
       l,
     )
 
-mul-t95 : tie.Need-overflow-mul-t95 invariant-loop decreases-loop
-mul-t95 c =
-    let f = (sound_sizes_lem c.before.before.before.before.before.before.before.before.before.before.before.before.before.before.before.before.before.before.before.before.before.before.loop.invariant.walk.whole).small in
-    let l = c.before.before.before.before.before.before.before.before.before.before.before.before.if10.false in
+returns-14 : tie.Need-returns-14 invariant-loop decreases-loop
+returns-14 c =
+    let inv = c.before.before.before.before.before.before.before.before.before.before.before.before.before.before.loop.invariant in
+    came _ _ _ inv.walk.same (access_unreserved _ _ _ _ inv.walk.whole inv.pinned
+    (seek_absent _ _ (walk_ends inv.walk c.before.before.before.before.before.before.before.before.before.before.before.before.before.loop-test.false (yes c.before.before.before.before.before.before.before.before.before.before.walked.ensures c.before.before.before.before.before.before.before.before.before.if8.false)))
+    (chosen_told c.before.before.before.before.before.before.choose.ensures c.before.before.before.before.chosen2.given.1)
+    (no_slot _ _ _ c.before.before.if9.false c.before.if10.false c.if11.true))
+
+mul-previous : tie.Need-overflow-mul-previous invariant-loop decreases-loop
+mul-previous c =
+    let f = (sound_sizes_lem c.before.before.before.before.before.before.before.before.before.before.before.before.before.before.loop.invariant.walk.whole).small in
+    let l = c.if11.false in
+    omega (arith, f, l)
+
+element-copy-out-previous : tie.Need-element-copy-out-previous invariant-loop decreases-loop
+element-copy-out-previous c =
+    let f = (sound_sizes_lem c.before.before.before.before.before.before.before.before.before.before.before.before.before.before.loop.invariant.walk.whole).small in
+    let l = c.if11.false in
+    omega (arith, f, l)
+
+returns-15 : tie.Need-returns-15 invariant-loop decreases-loop
+returns-15 c =
+    let inv = c.before.before.before.before.before.before.before.before.before.before.before.before.before.before.before.before.before.before.before.loop.invariant in
+    came _ _ _ inv.walk.same (access_unreserved _ _ _ _ inv.walk.whole inv.pinned
+    (seek_absent _ _ (walk_ends inv.walk c.before.before.before.before.before.before.before.before.before.before.before.before.before.before.before.before.before.before.loop-test.false (yes c.before.before.before.before.before.before.before.before.before.before.before.before.before.before.before.walked.ensures c.before.before.before.before.before.before.before.before.before.before.before.before.before.before.if8.false)))
+    (chosen_told c.before.before.before.before.before.before.before.before.before.before.before.choose.ensures c.before.before.before.before.before.before.before.before.before.chosen2.given.1)
+    (not_freed _ _ _ c.before.before.before.before.before.before.before.if9.false c.before.before.before.before.before.before.if10.false c.before.before.before.before.before.if11.false
+    (freed_told _ c.before.before.before.free.ensures c.before.answer2.given.1)))
+
+returns-16 : tie.Need-returns-16 invariant-loop decreases-loop
+returns-16 c =
+    let inv = c.before.before.before.before.before.before.before.before.before.before.before.before.before.before.before.before.before.before.before.before.before.before.before.loop.invariant in
+    came _ _ _ inv.walk.same
+    (access_unreserved _ _ _ _ inv.walk.whole inv.pinned (seek_absent _ _ (walk_ends inv.walk c.before.before.before.before.before.before.before.before.before.before.before.before.before.before.before.before.before.before.before.before.before.before.loop-test.false (yes c.before.before.before.before.before.before.before.before.before.before.before.before.before.before.before.before.before.before.before.walked.ensures c.before.before.before.before.before.before.before.before.before.before.before.before.before.before.before.before.before.before.if8.false)))
+    (chosen_told c.before.before.before.before.before.before.before.before.before.before.before.before.before.before.before.choose.ensures c.before.before.before.before.before.before.before.before.before.before.before.before.before.chosen2.given.1)
+    (not_linked _ _ _ c.before.before.before.before.before.before.before.before.before.before.before.if9.false c.before.before.before.before.before.before.before.before.before.before.if10.false
+    c.before.before.before.before.before.before.before.before.before.if11.false
+    (freed_told _ c.before.before.before.before.before.before.before.free.ensures c.before.before.before.before.before.enum-told3.given.1)
+    (index_told _ (insert_index _ _ _ _) c.before.before.before.insert.ensures c.before.put.given.1)))
+
+returns-17 : tie.Need-returns-17 invariant-loop decreases-loop
+returns-17 c =
+    let inv = c.before.before.before.before.before.before.before.before.before.before.before.before.before.before.before.before.before.before.before.before.before.before.before.loop.invariant in
+    came _ _ _ inv.walk.same
+    (access_unreserved _ _ _ _ inv.walk.whole inv.pinned (seek_absent _ _ (walk_ends inv.walk c.before.before.before.before.before.before.before.before.before.before.before.before.before.before.before.before.before.before.before.before.before.before.loop-test.false (yes c.before.before.before.before.before.before.before.before.before.before.before.before.before.before.before.before.before.before.before.walked.ensures c.before.before.before.before.before.before.before.before.before.before.before.before.before.before.before.before.before.before.if8.false)))
+    (chosen_told c.before.before.before.before.before.before.before.before.before.before.before.before.before.before.before.choose.ensures c.before.before.before.before.before.before.before.before.before.before.before.before.before.chosen2.given.1)
+    (not_counted _ _ _ c.before.before.before.before.before.before.before.before.before.before.before.if9.false c.before.before.before.before.before.before.before.before.before.before.if10.false
+    c.before.before.before.before.before.before.before.before.before.if11.false
+    (freed_told _ c.before.before.before.before.before.before.before.free.ensures c.before.before.before.before.before.enum-told3.given.1)
+    (index_told _ (insert_index _ _ _ _) c.before.before.before.insert.ensures c.before.enum-told4.given.1) c.if12.true))
+
+add-t : tie.Need-overflow-add-t invariant-loop decreases-loop
+add-t c =
+    let e = ap (λ (s : State). s.loading) c.before.before.before.before.before.before.before.before.before.before.before.before.before.before.before.before.before.before.before.before.before.before.before.before.before.before.loop.invariant.walk.same in
+    let l = c.before.before.before.if12.false in
+    omega (
+      arith,
+      c.before.before.before.before.before.before.before.before.before.before.before.before.before.before.before.before.before.before.before.before.before.before.before.before.before.before.before.before.before.before.before.before.before.before.well-formed,
+      e,
+      l,
+    )
+
+mul-t99 : tie.Need-overflow-mul-t99 invariant-loop decreases-loop
+mul-t99 c =
+    let f = (sound_sizes_lem c.before.before.before.before.before.before.before.before.before.before.before.before.before.before.before.before.before.before.before.before.before.before.before.before.before.before.loop.invariant.walk.whole).small in
+    let l = c.before.before.before.before.before.before.before.before.before.before.before.before.if11.false in
     omega (arith, f, l)
 
 element-set-from-t-2 : tie.Need-element-set-from-t-2 invariant-loop decreases-loop
 element-set-from-t-2 c =
-    let f = (sound_sizes_lem c.before.before.before.before.before.before.before.before.before.before.before.before.before.before.before.before.before.before.before.before.before.before.loop.invariant.walk.whole).small in
-    let l = c.before.before.before.before.before.before.before.before.before.before.before.before.if10.false in
+    let f = (sound_sizes_lem c.before.before.before.before.before.before.before.before.before.before.before.before.before.before.before.before.before.before.before.before.before.before.before.before.before.before.loop.invariant.walk.whole).small in
+    let l = c.before.before.before.before.before.before.before.before.before.before.before.before.if11.false in
     omega (arith, f, l)
 
-cast-t105 : tie.Need-overflow-cast-t105 invariant-loop decreases-loop
-cast-t105 c =
-    let f = (sound_sizes_lem c.before.before.before.before.before.before.before.before.before.before.before.before.before.before.before.before.before.before.before.before.before.before.before.loop.invariant.walk.whole).small in
-    let l = c.before.before.before.before.before.before.before.before.before.before.before.before.before.if10.false in
+cast-t109 : tie.Need-overflow-cast-t109 invariant-loop decreases-loop
+cast-t109 c =
+    let f = (sound_sizes_lem c.before.before.before.before.before.before.before.before.before.before.before.before.before.before.before.before.before.before.before.before.before.before.before.before.before.before.before.loop.invariant.walk.whole).small in
+    let l = c.before.before.before.before.before.before.before.before.before.before.before.before.before.if11.false in
     omega (arith, f, l)
 
-returns-17 : tie.Need-returns-17 invariant-loop decreases-loop
+returns-18 : tie.Need-returns-18 invariant-loop decreases-loop
 unfolding load_into
-returns-17 c =
-    let before6 = c.before.before.before.before.before.before in
-    let before12 = before6.before.before.before.before.before.before in
-    let before18 = before12.before.before.before.before.before.before in
-    let inv = before18.before.before.before.before.before.loop.invariant in
+returns-18 c =
+    let inv = c.before.before.before.before.before.before.before.before.before.before.before.before.before.before.before.before.before.before.before.before.before.before.before.before.before.before.before.loop.invariant in
     came _ _ _ inv.walk.same
-    (reserves _ _ _ before12.before.before.before.if8.false before12.before.before.if9.false before12.before.if10.false
-    (freed_told _ before6.before.before.before.before.before.free.ensures before6.before.before.before.enum-told3.given.1)
-    (index_told _ (insert_index _ _ _ _) before6.before.insert.ensures c.before.before.before.before.before.enum-told4.given.1)
-    c.count-load.ensures c.before.before.before.before.if11.false
+    (reserves _ _ _ c.before.before.before.before.before.before.before.before.before.before.before.before.before.before.before.if9.false c.before.before.before.before.before.before.before.before.before.before.before.before.before.before.if10.false c.before.before.before.before.before.before.before.before.before.before.before.before.before.if11.false
+    (freed_told _ c.before.before.before.before.before.before.before.before.before.before.before.free.ensures c.before.before.before.before.before.before.before.before.before.enum-told3.given.1)
+    (index_told _ (insert_index _ _ _ _) c.before.before.before.before.before.before.before.insert.ensures c.before.before.before.before.before.enum-told4.given.1)
+    c.count-load.ensures c.before.before.before.before.if12.false
     ∙ access_reserves _ _ _ _ inv.walk.whole inv.pinned
-    (seek_absent _ _ (walk_ends inv.walk before18.before.before.before.before.loop-test.false))
-    (chosen_told before18.before.choose.ensures before12.before.before.before.before.before.chosen2.given.1))
+    (seek_absent _ _ (walk_ends inv.walk c.before.before.before.before.before.before.before.before.before.before.before.before.before.before.before.before.before.before.before.before.before.before.before.before.before.before.loop-test.false (yes c.before.before.before.before.before.before.before.before.before.before.before.before.before.before.before.before.before.before.before.before.before.before.before.walked.ensures c.before.before.before.before.before.before.before.before.before.before.before.before.before.before.before.before.before.before.before.before.before.before.if8.false)))
+    (chosen_told c.before.before.before.before.before.before.before.before.before.before.before.before.before.before.before.before.before.before.before.choose.ensures c.before.before.before.before.before.before.before.before.before.before.before.before.before.before.before.before.before.chosen2.given.1))
 
 pub access-spec : {M : Type 1} → statement M
 access-spec =
@@ -321,7 +315,7 @@ access-spec =
     returns-7
     (λ c. search rules)
     add-sequence
-    mul-t65
+    mul-t66
     element-set-from-t
     (λ c κs. search rules)
     returns-8
@@ -330,31 +324,33 @@ access-spec =
     (λ c. search rules)
     loop-again
     (λ c κs. search rules)
-    (λ c. search rules)
     returns-9
-    (λ c. search rules)
     (λ c κs. search rules)
+    (λ c. search rules)
     returns-10
     (λ c. search rules)
+    (λ c κs. search rules)
     returns-11
-    add-generation
+    (λ c. search rules)
     returns-12
-    add-sequence-2
+    add-generation
     returns-13
+    add-sequence-2
+    returns-14
     mul-previous
     element-copy-out-previous
     (λ c κs. search rules)
     (λ c. search rules)
-    returns-14
-    (λ c. search rules)
-    (λ c κs. search rules)
-    (λ c. search rules)
     returns-15
     (λ c. search rules)
+    (λ c κs. search rules)
+    (λ c. search rules)
     returns-16
+    (λ c. search rules)
+    returns-17
     add-t
-    mul-t95
+    mul-t99
     element-set-from-t-2
     (λ c κs. search rules)
-    cast-t105
-    returns-17)
+    cast-t109
+    returns-18)

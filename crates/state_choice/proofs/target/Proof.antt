@@ -1,6 +1,6 @@
 -- SPDX-License-Identifier: Apache-2.0
 -- `state_choice::target` meets its contract. Assumes nothing.
-use Rattle.state.specs.Victim.{targetOr, target}
+use Rattle.state.specs.Victim.{target_or, target}
 use borrow.Author.Rules.{rules}
 use Rattle.state_choice.proofs.target.Statement.{statement}
 use Rattle.state_choice.proofs.target.Tie as tie
@@ -10,11 +10,11 @@ unfolding target
 returns c = rw (← c.before.before.before.vacant.ensures, c.before.top.given.1)
 
 returns-2 : tie.Need-returns-2
-unfolding target targetOr
+unfolding target target_or
 returns-2 c = rw (← c.before.before.before.vacant.ensures, c.before.top2.given.1)
 
 returns-3 : tie.Need-returns-3
-unfolding target targetOr
+unfolding target target_or
 returns-3 c = rw (← c.before.before.before.vacant.ensures, c.before.enum_told.given.1) c.victim.ensures
 
 pub target-spec : {M : Type 1} → statement M

@@ -8,7 +8,7 @@ use Rattle.state.specs.declared.State.{State}
 use Rattle.state.specs.Find.{touch_next}
 use Rattle.state.specs.Lookup.{found_seen}
 use Rattle.state.proofs.Cases.{heap_told}
-use Rattle.state_search.proofs.Cases.{find_unsound, Walking, walk_starts, walk_in, walk_ends, walk_long, walk_astray, walk_vacant, walk_meets, walk_on}
+use Rattle.state_search.proofs.Cases.{find_unsound, Walking, walk_starts, walk_in, walk_ends, walk-differs, walk_long, walk_astray, walk_vacant, walk_meets, walk_on}
 use Rattle.state_search.proofs.Cases.{seek_refused, seek_absent, seek_waits, seek_stops, seek_hits, lookup_sought, looked, touched_next}
 use borrow.Author.Rules.{rules}
 use Rattle.state_lookup.proofs.lookup.Statement.{statement}
@@ -95,8 +95,8 @@ add-t-2 c =
       l,
     )
 
-mul-t41 : tie.Need-overflow-mul-t41 invariant-loop decreases-loop
-mul-t41 c =
+mul-t42 : tie.Need-overflow-mul-t42 invariant-loop decreases-loop
+mul-t42 c =
     let l = walk_in c.before.before.before.before.before.before.before.before.before.before.before.before.before.before.before.before.loop.invariant
     c.before.before.before.before.before.before.before.before.before.before.before.before.before.if3.false in
     search rules
@@ -132,8 +132,15 @@ loop-again c =
     (flag c.before.before.before.before.same.ensures c.before.before.before.if5.false) c.next-in-chain.ensures
 
 returns-8 : tie.Need-returns-8 invariant-loop decreases-loop
+returns-8 c =
+    let inv = c.before.before.before.before.before.loop.invariant in
+    looked _ inv.same (sym (lookup_sought _ _ (seek_refused _ _ (walk-differs inv c.before.before.before.before.loop-test.false (no c.before.walked.ensures c.if7.true)))))
+
+returns-9 : tie.Need-returns-9 invariant-loop decreases-loop
 unfolding found_seen
-returns-8 c = looked _ c.before.loop.invariant.same (sym (lookup_sought _ _ (seek_absent _ _ (walk_ends c.before.loop.invariant c.loop-test.false))))
+returns-9 c =
+    let inv = c.before.before.before.before.before.loop.invariant in
+    looked _ inv.same (sym (lookup_sought _ _ (seek_absent _ _ (walk_ends inv c.before.before.before.before.loop-test.false (yes c.before.walked.ensures c.if7.false)))))
 
 pub lookup-spec : {M : Type 1} → statement M
 lookup-spec =
@@ -160,7 +167,7 @@ lookup-spec =
     (λ c. search rules)
     add-t
     add-t-2
-    mul-t41
+    mul-t42
     element-set-from-t
     (λ c κs. search rules)
     returns-7
@@ -168,4 +175,6 @@ lookup-spec =
     (λ c. search rules)
     (λ c. search rules)
     loop-again
-    returns-8)
+    (λ c κs. search rules)
+    returns-8
+    returns-9)

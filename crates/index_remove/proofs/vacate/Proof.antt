@@ -3,10 +3,10 @@
 use Rattle.index.specs.Chain.{remove_index}
 use Rattle.index.specs.Free.{release_index, vacate}
 use Rattle.index.proofs.Cases.{moved_back}
-use Rattle.index_chains.proofs.Cases.{moved_done}
+use Rattle.index_remove.proofs.Cases.{moved_done}
 use borrow.Author.Rules.{rules}
-use Rattle.index_chains.proofs.vacate.Statement.{statement}
-use Rattle.index_chains.proofs.vacate.Tie as tie
+use Rattle.index_remove.proofs.vacate.Statement.{statement}
+use Rattle.index_remove.proofs.vacate.Tie as tie
 
 returns : tie.Need-returns
 unfolding vacate
