@@ -2,7 +2,7 @@
 -- `passage::resize` meets its contract. Assumes nothing.
 use Rattle.maintenance_resize.proofs.Resizes.{checked_told}
 use Rattle.passage.proofs.Cases.{through_refused, through_paused, through_dirty, through_same, through_loading, through_spent, through_on}
-use mathlib.Core.Path.{◌∙◌}
+use Rattle.std.proofs.Common.{◌≡◌, ◌∙◌, arith}
 use Rattle.passage.proofs.resize.Goals as goal
 
 pub returns-in-Refused : goal.returns-in-Refused
@@ -32,11 +32,12 @@ returns-then-asked-t c =
 
 pub returns-then-t-gt0 : goal.returns-then-t-gt0
 returns-then-t-gt0 c =
+    let other : c.args.asked ≡ c.args.t.capacity → ⊥ = λ e. omega arith in
     c.held-then-t-gt0.ensures _ ∙ through_loading _ _ _ _ _
     (checked_told c.check_input-checked.ensures
     c.in_default.is)
     c.if-gate-ne0.false c.if-gate-ne0-2.false
-    c.if-asked-t.false c.if-t-gt0.true
+    other c.if-t-gt0.true
 
 pub returns-then-gate-eq-MAX : goal.returns-then-gate-eq-MAX
 returns-then-gate-eq-MAX c =
