@@ -1,6 +1,6 @@
 // SPDX-License-Identifier: Apache-2.0
-// Standard input and output of the programs. A read or a write that fails is told on standard error, and the caller stops: a program has no
-// exit status. Which bytes are read and written no contract can say.
+// Standard input and output of the programs. A read or a write that fails is told on standard error, and the caller stops; the program's exit status
+// is 0 then too. Which bytes are read and written no contract can say.
 #![tactic(auto)]
 
 ghost use Rattle.std.specs.Prelude.{◌≡◌, true, ◌≤◌, length};

@@ -10,3 +10,6 @@ slice_bounds-write_out-end c =
     let same = c.run-ran.ensures.out_len_unchanged in
     let within = c.run-ran.ensures.written_in_bounds in
     sym (length-take-le c.run-ran.result.written c.run-ran.new.out (omega arith))
+
+pub loop-blocks-smaller : goal.loop-blocks-smaller
+loop-blocks-smaller c = omega arith
