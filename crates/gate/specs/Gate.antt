@@ -2,12 +2,10 @@
 -- Document 02, request 1: "the gate of `maintain_capacity` in the library: a count of pauses, a count of dirty pages, a pending mark and a 64-bit
 -- generation".
 use Rattle.std.specs.Prelude.{ℕ, ◌+◌, ◌-◌, Bool, false, not, ◌&&◌, eqb, ltb}
-use Rattle.basics.specs.Try.{Try, ok, refuse, ◌>>=◌, ◌>>◌, need}
+use Rattle.basics.specs.Try.{Try, ok, ◌>>=◌, ◌>>◌, need}
 use Rattle.basics.specs.Refusals.{FULL, EMPTY}
 use Rattle.basics.specs.Numbers.{MAX}
-use Rattle.basics.specs.declared.Done.{Done}
 use Rattle.gate.specs.declared.Gate.{Gate}
-use Rattle.gate.specs.declared.Turned.{Turned}
 
 abbrev pub gate_of : ℕ → ℕ → Bool → ℕ → Gate
 gate_of pauses dirty pending generation = record { pauses = pauses; dirty = dirty; pending = pending; generation = generation }
@@ -47,11 +45,6 @@ unfoldable pub end_dirty : Gate → Try Gate
 end_dirty g = do
   n ← one_less g.dirty
   ok (gate_of g.pauses n g.pending g.generation)
-
--- "Every refusal .. leaves the gate as it was."
-abbrev pub turned_of : Gate → Try Gate → Turned
-turned_of g (ok h) = record { gate = h; answer = Done.Done }
-turned_of g (refuse n) = record { gate = g; answer = Done.Refused n }
 
 -- "While paused or pending, access loads nothing."
 unfoldable pub admits : Gate → Bool → Bool

@@ -3,13 +3,14 @@
 // Ported from src/fs/cache/maintenance.rs, src/fs/cache/mod.rs and src/fs/cache/write.rs of HypeR-Proj/kernel at 53afd06a1d, changed; see NOTICE.
 
 // The gate of `maintain_capacity`: pauses, dirty pages, the pending mark and the generation. It is a value of its own beside the table; access and
-// resize go through it in crate `passage`. Every function works on any gate.
+// resize go through it in crate `passage`. Every function works on any gate; a refusal leaves the gate as it was.
 #![tactic(auto)]
 
 ghost use Rattle.std.specs.Prelude.{◌≡◌};
-ghost use Rattle.gate.specs.Gate.{at_first, admits as admits_rule, turned_of, begin_pause, end_pause, begin_dirty, end_dirty};
+ghost use Rattle.basics.specs.Answers.{answer};
+ghost use Rattle.gate.specs.Gate.{at_first, one_more, one_less, admits as admits_rule, begin_pause, end_pause, begin_dirty, end_dirty};
 
-use basics::Done;
+use basics::Refusal;
 
 #[derive(Clone, Copy)]
 pub struct Gate {
@@ -19,15 +20,23 @@ pub struct Gate {
     pub generation: u64,
 }
 
-// The gate after a pause or a dirty page began or ended.
-#[derive(Clone, Copy)]
-pub struct Turned {
-    pub gate: Gate,
-    pub answer: Done,
+#[tactic(auto, using(basics::proofs::Tests::tests), unfolding(crate::specs::Gate::one_more))]
+fn raised(count: u64) -> Result<u64, Refusal>
+    ensures { answer result ≡ one_more count }
+{
+    count.checked_add(1).ok_or(Refusal::Full)
+}
+
+#[tactic(auto, using(basics::proofs::Tests::tests), unfolding(crate::specs::Gate::one_less))]
+fn lowered(count: u64) -> Result<u64, Refusal>
+    ensures { answer result ≡ one_less count }
+{
+    count.checked_sub(1).ok_or(Refusal::Empty)
 }
 
 impl Gate {
     // No pause, no dirty page, no mark.
+    #[tactic(auto, unfolding(crate::specs::Gate::at_first))]
     pub fn new() -> Gate
         ensures { result ≡ at_first }
     {
@@ -40,81 +49,52 @@ impl Gate {
     }
 
     // The Rust's `pause_admission`.
-    pub fn begin_pause(mut self) -> Turned
-        ensures { result ≡ turned_of self (begin_pause self) }
+    #[tactic(auto, unfolding(crate::specs::Gate::begin_pause))]
+    pub fn begin_pause(self) -> Result<Gate, Refusal>
+        ensures { answer result ≡ begin_pause self }
     {
-        if self.pauses == basics::MAX {
-            return Turned {
-                gate: self,
-                answer: Done::Refused(basics::FULL),
-            };
-        }
-        self.pauses = self.pauses + 1;
-        Turned {
-            gate: self,
-            answer: Done::Done,
-        }
+        Ok(Gate {
+            pauses: raised(self.pauses)?,
+            ..self
+        })
     }
 
     // The Rust's drop of an `AdmissionPause`.
-    pub fn end_pause(mut self) -> Turned
-        ensures { result ≡ turned_of self (end_pause self) }
+    #[tactic(auto, unfolding(crate::specs::Gate::end_pause))]
+    pub fn end_pause(self) -> Result<Gate, Refusal>
+        ensures { answer result ≡ end_pause self }
     {
-        if self.pauses == 0 {
-            return Turned {
-                gate: self,
-                answer: Done::Refused(basics::EMPTY),
-            };
-        }
-        self.pauses = self.pauses - 1;
-        Turned {
-            gate: self,
-            answer: Done::Done,
-        }
+        Ok(Gate {
+            pauses: lowered(self.pauses)?,
+            ..self
+        })
     }
 
-    pub fn begin_dirty(mut self) -> Turned
-        ensures { result ≡ turned_of self (begin_dirty self) }
+    #[tactic(auto, unfolding(crate::specs::Gate::begin_dirty))]
+    pub fn begin_dirty(self) -> Result<Gate, Refusal>
+        ensures { answer result ≡ begin_dirty self }
     {
-        if self.dirty == basics::MAX {
-            return Turned {
-                gate: self,
-                answer: Done::Refused(basics::FULL),
-            };
-        }
-        self.dirty = self.dirty + 1;
-        Turned {
-            gate: self,
-            answer: Done::Done,
-        }
+        Ok(Gate {
+            dirty: raised(self.dirty)?,
+            ..self
+        })
     }
 
-    pub fn end_dirty(mut self) -> Turned
-        ensures { result ≡ turned_of self (end_dirty self) }
+    #[tactic(auto, unfolding(crate::specs::Gate::end_dirty))]
+    pub fn end_dirty(self) -> Result<Gate, Refusal>
+        ensures { answer result ≡ end_dirty self }
     {
-        if self.dirty == 0 {
-            return Turned {
-                gate: self,
-                answer: Done::Refused(basics::EMPTY),
-            };
-        }
-        self.dirty = self.dirty - 1;
-        Turned {
-            gate: self,
-            answer: Done::Done,
-        }
+        Ok(Gate {
+            dirty: lowered(self.dirty)?,
+            ..self
+        })
     }
 
     // Whether an access may load.
+    #[tactic(auto, unfolding(crate::specs::Gate::admits))]
     pub fn admits(self, allow_load: bool) -> bool
         ensures { result ≡ admits_rule self allow_load }
     {
-        if !allow_load {
-            return false;
-        }
-        if self.pauses != 0 {
-            return false;
-        }
-        !self.pending
+        allow_load && self.pauses == 0 && !self.pending
     }
 }
