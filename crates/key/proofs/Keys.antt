@@ -1,6 +1,6 @@
 -- SPDX-License-Identifier: Apache-2.0
 -- The test on keys is equality. Assumes nothing.
-use Rattle.std.proofs.Common.{◌≡◌, true, ◌&&◌, eqb, refl, eq-eqb, eqb-true}
+use Rattle.std.proofs.Common.{◌≡◌, Bool, true, false, ◌&&◌, eqb, refl, eq-eqb, eqb-true}
 use Rattle.basics.proofs.Tests.{and_left, and_right}
 use Rattle.key.specs.declared.CacheKey.{CacheKey}
 use Rattle.key.specs.Key.{same_key}
@@ -17,3 +17,8 @@ key_eq a b e =
     let k : a.kind ≡ b.kind = eqb-true a.kind b.kind (and_right (eqb a.file b.file) (eqb a.kind b.kind) two) in
     let j : a.index ≡ b.index = eqb-true a.index b.index (and_right (eqb a.file b.file && eqb a.kind b.kind) (eqb a.index b.index) e) in
     λ i. record { file = f i; kind = k i; index = j i }
+
+-- three tests grouped from the right, as the derived `==` has them, and from the left, as the rule
+pub all_three : (p q r : Bool) → (p && (q && r)) ≡ (p && q && r)
+all_three true q r = refl
+all_three false q r = refl

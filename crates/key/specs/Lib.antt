@@ -1,5 +1,4 @@
 -- SPDX-License-Identifier: Apache-2.0
 pub mod Key
 pub mod Bucket
-pub mod Answers
 pub mod Least

@@ -8,21 +8,15 @@
 ghost use Rattle.std.specs.Prelude.{◌≡◌};
 ghost use Rattle.key.specs.Key.{same_key};
 ghost use Rattle.key.specs.Bucket.{rotated, bucket_of, count_for};
-ghost use Rattle.key.specs.Answers.{count_answer};
+ghost use Rattle.basics.specs.Answers.{answer};
 
-use basics::Done;
+use basics::Refusal;
 
-#[derive(Clone, Copy)]
+#[derive(Clone, Copy, Debug, PartialEq, Eq)]
 pub struct CacheKey {
     pub file: u64,
     pub kind: u8,
     pub index: u64,
-}
-
-#[derive(Clone, Copy)]
-pub enum Count {
-    Of(usize),
-    Refused(u8),
 }
 
 impl CacheKey {
@@ -30,23 +24,16 @@ impl CacheKey {
     pub fn same(self, other: CacheKey) -> bool
         ensures { result ≡ same_key self other }
     {
-        if self.file != other.file {
-            return false;
-        }
-        if self.kind != other.kind {
-            return false;
-        }
-        self.index == other.index
+        self == other
     }
 
     // File is rotated before it joins the sum, which wraps at 2^64. With no buckets there is no remainder, and the sum itself is the answer.
     pub fn bucket(self, buckets: usize) -> usize
         ensures { result ≡ bucket_of self buckets }
     {
-        let kind = self.kind as u64;
         let turned = rotate_left_5(self.file);
-        let part = std::num::wrapping_add_u64(turned, kind);
-        let sum = std::num::wrapping_add_u64(part, self.index) as usize;
+        let part = turned.wrapping_add(u64::from(self.kind));
+        let sum = part.wrapping_add(self.index) as usize;
         if buckets == 0 {
             return sum;
         }
@@ -54,7 +41,7 @@ impl CacheKey {
     }
 }
 
-// The Rust's `rotate_left(5)`.
+// The Rust's `rotate_left(5)`, of two shifts and an or, as the project asks.
 fn rotate_left_5(x: u64) -> u64
     ensures { result ≡ rotated x }
 {
@@ -62,14 +49,11 @@ fn rotate_left_5(x: u64) -> u64
 }
 
 // The bucket count of a capacity, or why there is none. A predecessor of n binary digits makes 2^(n + 1) buckets, and n is 64 less its leading zeros.
-pub fn bucket_count(capacity: usize) -> Count
-    ensures { count_answer result ≡ count_for capacity }
+#[tactic(auto, unfolding(crate::specs::Bucket::count_for))]
+pub fn bucket_count(capacity: usize) -> Result<usize, Refusal>
+    ensures { answer result ≡ count_for capacity }
 {
-    let checked = basics::check_capacity(capacity);
-    if let Done::Refused(why) = checked {
-        return Count::Refused(why);
-    }
+    basics::check_capacity(capacity)?;
     let predecessor = capacity - 1;
-    let zeros = usize::leading_zeros(predecessor);
-    Count::Of(1usize << (65 - zeros))
+    Ok(1 << (65 - predecessor.leading_zeros()))
 }

@@ -6,20 +6,15 @@ use Rattle.key.specs.declared.CacheKey.{CacheKey}
 use Rattle.key.specs.Bucket.{rotated, sum_of, bucket_of}
 use Rattle.key.proofs.CacheKey.bucket.Goals as goal
 
--- the second sum over the first, and the first over the turned file
-wrapped : (k : CacheKey) {turned part sum : ℕ}
-    → turned ≡ rotated k.file → part ≡ (turned + k.kind) % 2 ^ 64 → sum ≡ (part + k.index) % 2 ^ 64 → sum ≡ sum_of k
+-- two sums that wrap, over the turned file
+wrapped : (k : CacheKey) {turned kind : ℕ} → turned ≡ rotated k.file → kind ≡ k.kind → ((turned + kind) % 2 ^ 64 + k.index) % 2 ^ 64 ≡ sum_of k
 unfolding sum_of
-wrapped k t p s = s ∙ ap (λ (x : ℕ). (x + k.index) % 2 ^ 64) p ∙ mod-add-mod _ _ _ ∙ ap (λ (x : ℕ). (x + k.kind + k.index) % 2 ^ 64) t
+wrapped k {turned} {kind} t e = mod-add-mod _ _ _ ∙ ap (λ (x : ℕ). (x + kind + k.index) % 2 ^ 64) t ∙ ap (λ (x : ℕ). (rotated k.file + x + k.index) % 2 ^ 64) e
 
 pub returns-then-buckets-eq0 : goal.returns-then-buckets-eq0
 unfolding bucket_of
-returns-then-buckets-eq0 c =
-    wrapped _ c.rotate_left_5-turned.ensures c.wrapping_add_u64-part.ensures.value c.wrapping_add_u64-sum.ensures.value
-    ∙ rw (c.if-buckets-eq0.true, mod-zero)
+returns-then-buckets-eq0 c = wrapped _ c.rotate_left_5-turned.ensures c.from.ensures ∙ rw (c.if-buckets-eq0.true, mod-zero)
 
 pub returns : goal.returns
 unfolding bucket_of
-returns c =
-    ap (λ (x : ℕ). x % c.args.buckets)
-    (wrapped _ c.rotate_left_5-turned.ensures c.wrapping_add_u64-part.ensures.value c.wrapping_add_u64-sum.ensures.value)
+returns c = ap (λ (x : ℕ). x % c.args.buckets) (wrapped _ c.rotate_left_5-turned.ensures c.from.ensures)

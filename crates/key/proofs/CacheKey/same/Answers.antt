@@ -1,17 +1,13 @@
 -- SPDX-License-Identifier: Apache-2.0
--- `CacheKey::same` meets its contract: each return has the tests that led there. Assumes nothing.
-use Rattle.basics.proofs.Tests.{tests}
+-- `CacheKey::same` meets its contract: the derived `==` makes the rule's three tests. Assumes nothing.
+use Rattle.std.proofs.Common.{◌∙◌, eqb}
 use Rattle.key.specs.Key.{same_key}
+use Rattle.key.proofs.Keys.{all_three}
 use Rattle.key.proofs.CacheKey.same.Goals as goal
-
-pub returns-then-self-other : goal.returns-then-self-other
-unfolding same_key
-returns-then-self-other c = search tests
-
-pub returns-then-self-other-2 : goal.returns-then-self-other-2
-unfolding same_key
-returns-then-self-other-2 c = search tests
 
 pub returns : goal.returns
 unfolding same_key
-returns c = search tests
+returns c =
+    let a = c.args.self in
+    let b = c.args.other in
+    c.eq.ensures ∙ all_three (eqb a.file b.file) (eqb a.kind b.kind) (eqb a.index b.index)
