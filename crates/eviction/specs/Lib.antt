@@ -1,5 +1,4 @@
 -- SPDX-License-Identifier: Apache-2.0
-pub mod Answers
 pub mod Entries
 pub mod Sift
 pub mod Heap

@@ -3,21 +3,22 @@
 // Ported from src/fs/cache/state/eviction.rs of HypeR-Proj/kernel at 53afd06a1d, changed; see NOTICE.
 
 // state/eviction.rs: a heap of the clean slots, ordered by their last use, with the place of each slot: a new one, its reads and the victim
-// search. Each function works on any value: where the Rust would stop, the answer is the refusal 10.
+// search. Each function works on any value: where the Rust would stop, the answer is the refusal `Stop`.
 #![tactic(auto)]
 
-ghost use Rattle.std.specs.Prelude.{◌≡◌, ◌-◌, ◌≤◌, ◌++◌, replicate};
-ghost use Rattle.basics.specs.Numbers.{NONE};
-ghost use Rattle.eviction.specs.Answers.{moved_of, cold_answer};
-ghost use Rattle.eviction.specs.Entries.{older, no_heap, new_heap};
+ghost use Rattle.std.specs.Prelude.{◌≡◌, true, false, MatchResult};
+ghost use Rattle.basics.specs.Answers.{answer, found_answer};
+ghost use Rattle.basics.specs.declared.Refusal.{Refusal};
+ghost use Rattle.eviction.specs.Entries.{older, sized, no_heap, new_heap};
 ghost use Rattle.eviction.specs.Victim.{candidate_at, oldest_of, victim_of};
 
-use basics::{Done, MAX_CAPACITY, NONE, PINS, STOP};
+use basics::{MAX_CAPACITY, Refusal};
 
-#[derive(Clone, Copy)]
+// In the order of age: by the last use, then by the slot.
+#[derive(Clone, Copy, PartialEq, Eq, PartialOrd, Ord)]
 pub struct Entry {
-    pub slot: u16,
     pub last_access: u64,
+    pub slot: u16,
 }
 
 #[derive(Clone, Copy)]
@@ -27,146 +28,95 @@ pub struct EvictionHeap {
     pub positions: [u16; 256],
 }
 
-#[derive(Clone, Copy)]
-pub struct Moved {
-    pub heap: EvictionHeap,
-    pub answer: Done,
-}
-
-// The answer of oldest, candidate and victim.
-#[derive(Clone, Copy)]
-pub enum Cold {
-    At(usize),
-    Nothing,
-    Refused(u8),
-}
-
 impl Entry {
+    #[tactic(auto, using(basics::proofs::Tests::tests), unfolding(crate::specs::Entries::older))]
     pub fn older_than(self, other: Entry) -> bool
         ensures { result ≡ older self other }
     {
-        if self.last_access < other.last_access {
-            return true;
-        }
-        if other.last_access < self.last_access {
-            return false;
-        }
-        self.slot < other.slot
+        self < other
     }
-}
-
-// So many slots without a place.
-fn filled_positions(n: usize) -> [u16; 256]
-    requires { n ≤ 256 }
-    ensures { result ≡ replicate n NONE ++ replicate (256 - n) 0 }
-{
-    let mut positions: [u16; 256] = [0; 256];
-    let mut i: usize = 0;
-    while i < n {
-        positions[i] = NONE;
-        i += 1;
-    }
-    positions
 }
 
 impl EvictionHeap {
-    pub fn try_new(capacity: usize) -> Moved
-        ensures { result ≡ moved_of no_heap (new_heap capacity) }
+    // Of a new table that is refused.
+    #[tactic(auto, unfolding(crate::specs::Entries::no_heap))]
+    pub fn none() -> EvictionHeap
+        ensures { result ≡ no_heap }
     {
         let blank = Entry {
-            slot: 0,
             last_access: 0,
+            slot: 0,
         };
-        let entries: [Entry; 256] = [blank; 256];
-        let checked = basics::check_capacity(capacity);
-        match checked {
-            Done::Refused(why) => {
-                let positions: [u16; 256] = [0; 256];
-                Moved {
-                    heap: EvictionHeap {
-                        entries: entries,
-                        len: 0,
-                        positions: positions,
-                    },
-                    answer: Done::Refused(why),
-                }
-            }
-            Done::Done => {
-                let positions = filled_positions(capacity);
-                Moved {
-                    heap: EvictionHeap {
-                        entries: entries,
-                        len: 0,
-                        positions: positions,
-                    },
-                    answer: Done::Done,
-                }
-            }
+        EvictionHeap {
+            entries: [blank; 256],
+            len: 0,
+            positions: [0; 256],
         }
     }
 
-    pub fn oldest(self, capacity: usize) -> Cold
-        ensures { cold_answer result ≡ oldest_of capacity self }
+    #[tactic(auto, using(basics::proofs::Capacities::capacity_fits), unfolding(crate::specs::Entries::new_heap, crate::specs::Entries::no_heap, crate::specs::Entries::fresh_heap))]
+    pub fn try_new(capacity: usize) -> Result<EvictionHeap, Refusal>
+        ensures { answer result ≡ new_heap capacity }
     {
-        if MAX_CAPACITY < capacity {
-            return Cold::Refused(STOP);
-        }
-        if capacity < self.len {
-            return Cold::Refused(STOP);
-        }
-        if self.len == 0 {
-            return Cold::Nothing;
-        }
-        let e = self.entries[0];
-        Cold::At(e.slot as usize)
+        basics::check_capacity(capacity)?;
+        Ok(EvictionHeap {
+            positions: basics::unset(capacity),
+            ..EvictionHeap::none()
+        })
     }
 
-    pub fn candidate(self, capacity: usize, index: usize) -> Cold
-        ensures { cold_answer result ≡ candidate_at capacity self index }
+    // The first test of each call: sizes that the arrays hold.
+    #[tactic(auto, using(basics::proofs::Tests::tests), unfolding(crate::specs::Entries::sized))]
+    pub fn check_sized(&self, capacity: usize) -> Result<(), Refusal>
+        ensures { MatchResult result (λ _. sized capacity self.now ≡ true) (λ why. (why ≡ Refusal.Stop) × (sized capacity self.now ≡ false)) }
     {
-        if MAX_CAPACITY < capacity {
-            return Cold::Refused(STOP);
+        if MAX_CAPACITY < capacity || capacity < self.len {
+            return Err(Refusal::Stop);
         }
-        if capacity < self.len {
-            return Cold::Refused(STOP);
-        }
+        Ok(())
+    }
+
+    #[tactic(auto, unfolding(crate::specs::Victim::oldest_of))]
+    pub fn oldest(&self, capacity: usize) -> Result<Option<usize>, Refusal>
+        ensures { found_answer result ≡ oldest_of capacity self.now }
+    {
+        self.candidate(capacity, 0)
+    }
+
+    #[tactic(auto, using(basics::proofs::Tests::tests), unfolding(crate::specs::Victim::candidate_at, crate::specs::Entries::sized))]
+    pub fn candidate(&self, capacity: usize, index: usize) -> Result<Option<usize>, Refusal>
+        ensures { found_answer result ≡ candidate_at capacity self.now index }
+    {
+        self.check_sized(capacity)?;
         if self.len <= index {
-            return Cold::Nothing;
+            return Ok(None);
         }
-        let e = self.entries[index];
-        Cold::At(e.slot as usize)
+        Ok(Some(usize::from(self.entries[index].slot)))
     }
 
     // The first unpinned slot among the first heap places: the victim search of access and of reclaim.
-    pub fn victim(self, capacity: usize, places: usize, pins: &[u8]) -> Cold
-        ensures { cold_answer result ≡ victim_of places capacity self pins.now }
+    #[tactic(auto, using(basics::proofs::Tests::tests, crate::proofs::Cases::victim_step, crate::proofs::Cases::victim_end, crate::proofs::Cases::taken), unfolding(crate::specs::Victim::victim_of, crate::specs::Entries::sized))]
+    pub fn victim(
+        &self,
+        capacity: usize,
+        places: usize,
+        pins: &[u8],
+    ) -> Result<Option<usize>, Refusal>
+        ensures { found_answer result ≡ victim_of places capacity self.now pins.now }
     {
-        if MAX_CAPACITY < capacity {
-            return Cold::Refused(STOP);
-        }
-        if capacity < self.len {
-            return Cold::Refused(STOP);
-        }
+        self.check_sized(capacity)?;
         if pins.len() != capacity {
-            return Cold::Refused(PINS);
+            return Err(Refusal::Pins);
         }
-        let mut i: usize = 0;
-        let mut left = places;
-        while 0 < left {
-            if self.len <= i {
-                return Cold::Nothing;
-            }
-            let e = self.entries[i];
-            let slot = e.slot as usize;
+        for entry in &self.entries[..places.min(self.len)] {
+            let slot = usize::from(entry.slot);
             if capacity <= slot {
-                return Cold::Refused(STOP);
+                return Err(Refusal::Stop);
             }
             if pins[slot] == 0 {
-                return Cold::At(slot);
+                return Ok(Some(slot));
             }
-            i += 1;
-            left -= 1;
         }
-        Cold::Nothing
+        Ok(None)
     }
 }
