@@ -1,23 +1,20 @@
 -- SPDX-License-Identifier: Apache-2.0
--- What the proofs of the index share, and what callers of the index cite. Assumes nothing.
-use Prim.Native.Nat.{ℕ, ◌≤◌, ◌<◌}
-use mathlib.Core.Path.{◌≡◌, refl, sym, ◌∙◌, ap}
+-- The test of the sizes tells the sizes, and the bucket count of a capacity fits the heads. Assumes nothing.
+use Prim.Native.Nat.{ℕ, ◌≤◌}
+use mathlib.Core.Path.{◌≡◌, refl}
 use mathlib.Core.Bool.{true, ◌&&◌}
 use lib.Dec.{leb, ltb}
+use native.Mathlib.Omega.{arith}
 use borrow.Author.Tests.{ltb-true, leb-true}
-use Rattle.basics.specs.Try.{Try, ok, refuse}
+use Rattle.basics.specs.Try.{Try, ok, refuse, ◌>>◌}
+use Rattle.basics.specs.Answers.{Fine, done}
+use Rattle.basics.specs.Capacity.{need_capacity}
+use Rattle.basics.proofs.Capacities.{capacity_fits}
 use Rattle.basics.proofs.Tests.{and_left, and_right}
-use Rattle.index.specs.declared.Index.{Index}
-use Rattle.index.specs.declared.Moved.{Moved}
-use Rattle.index.specs.Answers.{moved_of, try_moved}
+use Rattle.key.specs.Bucket.{count_for}
+use Rattle.key.proofs.Least.{few_buckets}
 use Rattle.index.specs.Chain.{sizes}
-
--- what the test of the sizes tells
-pub record Sized (c buckets n : ℕ) : Type 0 where
-  pub small : c ≤ 256
-  pub some : 0 < buckets
-  pub most : buckets ≤ 512
-  pub stack : n ≤ c
+use Rattle.index.specs.Sizes.{Sized}
 
 pub has_sizes : {c buckets n : ℕ} → sizes c buckets n ≡ true → Sized c buckets n
 unfolding sizes
@@ -35,10 +32,14 @@ has_sizes {c} {buckets} {n} e =
       stack = leb-true _ _ (and_right (x && y && z) w e);
     }
 
--- ---- a rule's result, back from what the code answers for it
-moved_undo : (ix : Index) (x : Try Index) → x ≡ try_moved (moved_of ix x)
-moved_undo ix (ok a) = refl
-moved_undo ix (refuse n) = refl
+past : (x : Try Fine) {n b : ℕ} → ok b ≡ (x >> ok n) → (x ≡ ok done) × (b ≡ n)
+past (ok done) e = (refl, cc)
+past (refuse k) e = cc
 
-pub moved_back : {m : Moved} (ix : Index) (x : Try Index) → m ≡ moved_of ix x → x ≡ try_moved m
-moved_back {m} ix x e = moved_undo ix x ∙ ap try_moved (sym e)
+-- a capacity that has a bucket count
+pub counted : {c b : ℕ} → ok b ≡ count_for c → (c ≤ 256) × (b ≤ 512)
+unfolding count_for
+counted {c} {b} e =
+    let p = past (need_capacity c) e in
+    let f = capacity_fits c p.0 in
+    (f.1, omega (arith, few_buckets c f.1))

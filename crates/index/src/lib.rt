@@ -3,21 +3,22 @@
 // Ported from src/fs/cache/index.rs of HypeR-Proj/kernel at 53afd06a1d, changed; see NOTICE.
 
 // index.rs: the chains of slots and the stack of vacant slots: a new index, the stack, and what reads a chain. Each function works on any value:
-// where the Rust would stop, the answer is the refusal 10 and the index is as it came.
+// where the Rust would stop, it is refused.
 #![tactic(auto)]
 
-ghost use Rattle.std.specs.Prelude.{◌-◌, ◌≤◌, ◌≡◌, ◌++◌, get_or, replicate};
-ghost use Rattle.basics.specs.Numbers.{NONE};
+ghost use Rattle.std.specs.Prelude.{◌-◌, ◌≤◌, ◌≡◌, ◌++◌, replicate, true, false, MatchResult, OnOk};
+ghost use Rattle.basics.specs.declared.Refusal.{Refusal};
+ghost use Rattle.basics.specs.Answers.{answer, found_answer};
 ghost use Rattle.basics.specs.Lists.{down};
-ghost use Rattle.key.specs.Bucket.{bucket_of};
-ghost use Rattle.index.specs.Answers.{moved_of, top_answer};
-ghost use Rattle.index.specs.Chain.{sizes};
+ghost use Rattle.index.specs.Chain.{sized, head_of, next_of};
+ghost use Rattle.index.specs.Sizes.{Sized};
 ghost use Rattle.index.specs.Free.{top_vacant, take_vacant, release_index};
 ghost use Rattle.index.specs.Fresh.{no_index, new_index};
 
-use basics::{Done, NONE, STOP};
-use key::{CacheKey, Count};
+use basics::{NONE, Refusal};
+use key::CacheKey;
 
+// By value, in fixed memory: `free_len` places of the stack are in use, and the others are 0.
 #[derive(Clone, Copy)]
 pub struct Index {
     pub heads: [u16; 512],
@@ -27,219 +28,103 @@ pub struct Index {
     pub free_len: usize,
 }
 
-#[derive(Clone, Copy)]
-pub struct Moved {
-    pub index: Index,
-    pub answer: Done,
-}
-
-// Whether a chain takes one more slot.
-#[derive(Clone, Copy)]
-pub enum Room {
-    Yes,
-    No,
-    Refused(u8),
-}
-
-// The top of the stack of vacant slots.
-#[derive(Clone, Copy)]
-pub enum Top {
-    At(usize),
-    Nothing,
-    Refused(u8),
-}
-
 impl Index {
     // An index of empty chains, with every slot on the stack.
-    pub fn try_new(capacity: usize) -> Moved
-        ensures { result ≡ moved_of no_index (new_index capacity) }
+    #[tactic(auto, unfolding(crate::specs::Fresh::new_index, crate::specs::Fresh::fresh_index, key::specs::Bucket::count_for))]
+    pub fn try_new(capacity: usize) -> Result<Index, Refusal>
+        ensures { answer result ≡ new_index capacity }
     {
-        let counted = key::bucket_count(capacity);
-        match counted {
-            Count::Refused(why) => {
-                let heads: [u16; 512] = [0; 512];
-                let next: [u16; 256] = [0; 256];
-                let free: [u16; 256] = [0; 256];
-                Moved {
-                    index: Index {
-                        heads: heads,
-                        buckets: 0,
-                        next: next,
-                        free: free,
-                        free_len: 0,
-                    },
-                    answer: Done::Refused(why),
-                }
-            }
-            Count::Of(buckets) => {
-                let heads = empty_heads(buckets);
-                let next = empty_next(capacity);
-                let free = full_stack(capacity);
-                Moved {
-                    index: Index {
-                        heads: heads,
-                        buckets: buckets,
-                        next: next,
-                        free: free,
-                        free_len: capacity,
-                    },
-                    answer: Done::Done,
-                }
-            }
+        let buckets = key::bucket_count(capacity)?;
+        Ok(Index {
+            heads: basics::unset(buckets),
+            buckets,
+            next: basics::unset(capacity),
+            free: full_stack(capacity),
+            free_len: capacity,
+        })
+    }
+
+    // What a refused new table has.
+    #[tactic(auto, unfolding(crate::specs::Fresh::no_index))]
+    pub fn none() -> Index
+        ensures { result ≡ no_index }
+    {
+        Index {
+            heads: [0; 512],
+            buckets: 0,
+            next: [0; 256],
+            free: [0; 256],
+            free_len: 0,
+        }
+    }
+
+    // Refused where the arrays do not hold the sizes.
+    #[tactic(auto, using(basics::proofs::Tests::tests), unfolding(crate::specs::Chain::sizes))]
+    pub fn check_sized(&self, capacity: usize) -> Result<(), Refusal>
+        ensures test { MatchResult result (λ _. sized capacity self.now ≡ true)
+            (λ why. (why ≡ Refusal.Stop) × (sized capacity self.now ≡ false)) }
+        ensures bounds { OnOk result (Sized capacity self.now.buckets self.now.free_len) }
+    {
+        if capacity <= 256 && 0 < self.buckets && self.buckets <= 512 && self.free_len <= capacity {
+            Ok(())
+        } else {
+            Err(Refusal::Stop)
         }
     }
 
     // The top of the stack.
-    pub fn vacant(self, capacity: usize) -> Top
-        ensures { top_answer result ≡ top_vacant capacity self }
+    #[tactic(auto, using(basics::proofs::Tests::tests), unfolding(crate::specs::Free::top_vacant))]
+    pub fn vacant(&self, capacity: usize) -> Result<Option<usize>, Refusal>
+        ensures top { found_answer result ≡ top_vacant capacity self.now }
+        ensures bounds { OnOk result (Sized capacity self.now.buckets self.now.free_len) }
     {
-        if !sized(capacity, self.buckets, self.free_len) {
-            return Top::Refused(STOP);
-        }
-        let n = self.free_len;
-        if n == 0 {
-            return Top::Nothing;
-        }
-        Top::At(basics::wide(self.free[n - 1]))
+        self.check_sized(capacity)?;
+        Ok(self.free[..self.free_len].last().copied().map(usize::from))
     }
 
     // Takes the top of the stack, which must be this slot. The place given up becomes 0.
-    pub fn take_vacant(mut self, capacity: usize, slot: usize) -> Moved
-        ensures { result ≡ moved_of self (take_vacant capacity self slot) }
+    #[tactic(auto, using(basics::proofs::Tests::tests), unfolding(crate::specs::Free::take_vacant, crate::specs::Free::top_vacant))]
+    pub fn take_vacant(mut self, capacity: usize, slot: usize) -> Result<Index, Refusal>
+        ensures { answer result ≡ take_vacant capacity self slot }
     {
-        if !sized(capacity, self.buckets, self.free_len) {
-            return Moved {
-                index: self,
-                answer: Done::Refused(STOP),
-            };
+        if self.vacant(capacity)? != Some(slot) {
+            return Err(Refusal::Stop);
         }
-        if self.free_len == 0 {
-            return Moved {
-                index: self,
-                answer: Done::Refused(STOP),
-            };
-        }
-        let n = self.free_len - 1;
-        let top = basics::wide(self.free[n]);
-        if top != slot {
-            return Moved {
-                index: self,
-                answer: Done::Refused(STOP),
-            };
-        }
-        self.free[n] = 0;
-        self.free_len = n;
-        Moved {
-            index: self,
-            answer: Done::Done,
-        }
+        self.free_len -= 1;
+        self.free[self.free_len] = 0;
+        Ok(self)
     }
 
     // Puts a slot that links to nothing on the stack.
-    pub fn release(mut self, capacity: usize, slot: usize) -> Moved
-        ensures { result ≡ moved_of self (release_index capacity self slot) }
+    #[tactic(auto, using(basics::proofs::Tests::tests), unfolding(crate::specs::Free::release_index, crate::specs::Chain::sizes))]
+    pub fn release(mut self, capacity: usize, slot: usize) -> Result<Index, Refusal>
+        ensures { answer result ≡ release_index capacity self slot }
     {
-        if !sized(capacity, self.buckets, self.free_len) {
-            return Moved {
-                index: self,
-                answer: Done::Refused(STOP),
-            };
+        self.check_sized(capacity)?;
+        if capacity <= slot || self.next[slot] != NONE || self.free_len == capacity {
+            return Err(Refusal::Stop);
         }
-        if capacity <= slot {
-            return Moved {
-                index: self,
-                answer: Done::Refused(STOP),
-            };
-        }
-        let next = self.next[slot];
-        if next != NONE {
-            return Moved {
-                index: self,
-                answer: Done::Refused(STOP),
-            };
-        }
-        let n = self.free_len;
-        if n == capacity {
-            return Moved {
-                index: self,
-                answer: Done::Refused(STOP),
-            };
-        }
-        self.free[n] = slot as u16;
-        self.free_len = n + 1;
-        Moved {
-            index: self,
-            answer: Done::Done,
-        }
+        self.free[self.free_len] = slot as u16;
+        self.free_len += 1;
+        Ok(self)
     }
-}
 
-// The first slot of the key's chain. A bucket past the heads, which an index of the right sizes does not have, gives 0. The array is
-// read as a slice because only a slice tells its length to the proof.
-pub fn head<'a>(heads: &'a [u16; 512], buckets: usize, key: CacheKey) -> usize
-    ensures { result ≡ get_or heads.now (bucket_of key buckets) 0 }
-{
-    let all: &[u16] = heads;
-    let bucket = key.bucket(buckets);
-    if all.len() <= bucket {
-        return 0;
+    // The first slot of the key's chain. A bucket past the heads, which an index of the right sizes does not have, gives 0.
+    pub fn head(&self, key: CacheKey) -> usize
+        ensures { result ≡ head_of self.now key }
+    {
+        self.heads
+            .get(key.bucket(self.buckets))
+            .copied()
+            .map_or(0, usize::from)
     }
-    basics::wide(all[bucket])
-}
 
-// The slot behind one in its chain. A slot past the places gives 0.
-pub fn next_in_chain(next: &[u16; 256], slot: usize) -> usize
-    ensures { result ≡ get_or next.now slot 0 }
-{
-    let all: &[u16] = next;
-    if all.len() <= slot {
-        return 0;
+    // The slot behind one in its chain. A slot past the places gives 0.
+    pub fn next_in_chain(&self, slot: usize) -> usize
+        ensures { result ≡ next_of self.now slot }
+    {
+        self.next.get(slot).copied().map_or(0, usize::from)
     }
-    basics::wide(all[slot])
-}
-
-// Whether the arrays hold these sizes.
-pub fn sized(capacity: usize, buckets: usize, free_len: usize) -> bool
-    ensures { result ≡ sizes capacity buckets free_len }
-{
-    if 256 < capacity {
-        return false;
-    }
-    if buckets == 0 {
-        return false;
-    }
-    if 512 < buckets {
-        return false;
-    }
-    free_len <= capacity
-}
-
-// So many heads of empty chains.
-fn empty_heads(buckets: usize) -> [u16; 512]
-    requires { buckets ≤ 512 }
-    ensures { result ≡ replicate buckets NONE ++ replicate (512 - buckets) 0 }
-{
-    let mut heads: [u16; 512] = [0; 512];
-    let mut i: usize = 0;
-    while i < buckets {
-        heads[i] = NONE;
-        i += 1;
-    }
-    heads
-}
-
-// So many slots that link to nothing.
-fn empty_next(capacity: usize) -> [u16; 256]
-    requires { capacity ≤ 256 }
-    ensures { result ≡ replicate capacity NONE ++ replicate (256 - capacity) 0 }
-{
-    let mut next: [u16; 256] = [0; 256];
-    let mut i: usize = 0;
-    while i < capacity {
-        next[i] = NONE;
-        i += 1;
-    }
-    next
 }
 
 // Every slot on the stack, 0 on top.
@@ -247,11 +132,9 @@ fn full_stack(capacity: usize) -> [u16; 256]
     requires { capacity ≤ 256 }
     ensures { result ≡ down capacity ++ replicate (256 - capacity) 0 }
 {
-    let mut free: [u16; 256] = [0; 256];
-    let mut i: usize = 0;
-    while i < capacity {
+    let mut free = [0; 256];
+    for i in 0..capacity {
         free[i] = (capacity - 1 - i) as u16;
-        i += 1;
     }
     free
 }
