@@ -6,139 +6,141 @@
 // what the sifts require.
 #![tactic(auto)]
 
-ghost use Rattle.std.specs.Prelude.{◌≡◌, ◌+◌, ◌-◌, ◌*◌, ◌/◌, ◌≤◌, ◌<◌, leb, if◌then◌else◌};
-ghost use Rattle.basics.specs.Try.{refuse};
-ghost use Rattle.eviction.specs.Answers.{moved_of, try_moved};
-ghost use Rattle.eviction.specs.Entries.{older};
-ghost use Rattle.eviction.specs.Sift.{sift_up, sift_down};
+ghost use Rattle.std.specs.Prelude.{◌≡◌, ◌+◌, ◌*◌, ◌≤◌, ◌<◌};
+ghost use Rattle.basics.specs.Answers.{answer};
+ghost use Rattle.eviction_swaps.specs.Answers.{answer_in};
+ghost use Rattle.eviction_swaps.specs.Way.{next_of, InReach};
+ghost use Rattle.eviction.specs.Sift.{swapped, sift_from, up_to as up_rule, child_of as child_rule, down_to as down_rule, sift_up as sift_up_rule, sift_down as sift_down_rule};
 
-use basics::{Done, STOP};
-use eviction::{Entry, EvictionHeap, Moved};
+use basics::{MAX_CAPACITY, Refusal};
+use eviction::EvictionHeap;
 
-// The place above p. Above place 0 is 0 itself, and no entry is older than itself.
-pub fn parent(p: usize) -> usize
-    ensures value { result ≡ (p - 1) / 2 }
-    ensures upper_bound { result ≤ p }
-{
-    if p == 0 {
-        return 0;
-    }
-    (p - 1) / 2
-}
-
-// The right child of p where the heap reaches so far, else the left one: a place that can be read.
-fn right(len: usize, p: usize) -> usize
-    requires { (p * 2 + 1 < len) × (len ≤ 256) }
-    ensures value { result ≡ (if leb len (p * 2 + 2) then p * 2 + 1 else p * 2 + 2) }
+// Where the entry at p goes next on its way up; p, where it stays. Above place 0 is 0 itself, and no entry is older than itself.
+#[tactic(auto, using(basics::proofs::Tests::tests, crate::proofs::Cases::older_self), unfolding(eviction::specs::Sift::up_to))]
+pub fn up_to(heap: &EvictionHeap, p: usize) -> usize
+    requires { p < 256 }
+    ensures value { result ≡ up_rule heap.now p }
     ensures upper_bound { result < 256 }
 {
-    if len <= p * 2 + 2 {
-        return p * 2 + 1;
+    let above = p.saturating_sub(1) / 2;
+    if heap.entries[p].older_than(heap.entries[above]) {
+        above
+    } else {
+        p
     }
-    p * 2 + 2
 }
 
-// Of two children with their places, the right one only when it is strictly older.
-fn child(first: usize, second: usize, l: Entry, r: Entry) -> usize
-    requires { (first < 256) × (second < 256) }
-    ensures value { result ≡ (if older r l then second else first) }
+// The right child of p only when it is strictly older than the left.
+#[tactic(auto, using(basics::proofs::Tests::tests), unfolding(eviction::specs::Sift::child_of))]
+fn child_of(heap: &EvictionHeap, p: usize) -> usize
+    requires { (p * 2 + 1 < heap.now.len) × (heap.now.len ≤ 256) }
+    ensures value { result ≡ child_rule heap.now p }
     ensures upper_bound { result < 256 }
 {
-    if r.older_than(l) { second } else { first }
-}
-
-// The heap with the number of a refusal.
-pub fn refused(heap: EvictionHeap, why: u8) -> Moved
-    ensures { result ≡ moved_of heap (refuse why) }
-{
-    Moved {
-        heap: heap,
-        answer: Done::Refused(why),
+    let left = p * 2 + 1;
+    let right = p * 2 + 2;
+    if right < heap.len && heap.entries[right].older_than(heap.entries[left]) {
+        right
+    } else {
+        left
     }
 }
 
-// The heap beside a refusal is one between two steps: the caller hands back its own.
-pub fn sift_up(mut heap: EvictionHeap, capacity: usize, start: usize) -> Moved
+// Where the entry at p goes next on its way down; p, where it stays.
+#[tactic(auto, using(basics::proofs::Tests::tests), unfolding(eviction::specs::Sift::down_to))]
+fn down_to(heap: &EvictionHeap, p: usize) -> usize
+    requires { (p < 256) × (heap.now.len ≤ 256) }
+    ensures value { result ≡ down_rule heap.now p }
+    ensures upper_bound { result < 256 }
+{
+    if heap.len <= p * 2 + 1 {
+        return p;
+    }
+    let child = child_of(heap, p);
+    if heap.entries[child].older_than(heap.entries[p]) {
+        child
+    } else {
+        p
+    }
+}
+
+// The entries at i and j change places.
+#[tactic(auto, using(basics::proofs::Tests::tests, std::proofs::lemmas::List::Edits::swap_is), unfolding(eviction::specs::Sift::swapped))]
+fn swap(heap: &mut EvictionHeap, capacity: usize, i: usize, j: usize) -> Result<(), Refusal>
+    requires { (capacity ≤ 256) × ((i < 256) × (j < 256)) }
+    ensures swaps { answer_in result heap.new ≡ swapped capacity heap.old i j }
+    ensures len { heap.new.len ≡ heap.old.len }
+{
+    let a = usize::from(heap.entries[i].slot);
+    let b = usize::from(heap.entries[j].slot);
+    if capacity <= b || capacity <= a {
+        return Err(Refusal::Stop);
+    }
+    heap.entries.swap(i, j);
+    heap.positions[b] = i as u16;
+    heap.positions[a] = j as u16;
+    Ok(())
+}
+
+// Which way an entry goes.
+#[derive(Clone, Copy)]
+enum Way {
+    Up,
+    Down,
+}
+
+impl Way {
+    // Where the entry at p goes next; p, where it stays.
+    fn next(self, heap: &EvictionHeap, p: usize) -> usize
+        requires { (p < 256) × InReach self heap.now.len }
+        ensures value { result ≡ next_of self heap.now p }
+        ensures upper_bound { result < 256 }
+    {
+        match self {
+            Way::Up => up_to(heap, p),
+            Way::Down => down_to(heap, p),
+        }
+    }
+}
+
+// The entry at `start` goes on, place by place, until it stays; no way has 256 steps.
+#[tactic(auto, using(basics::proofs::Tests::tests, crate::proofs::Cases::sift_step, crate::proofs::Cases::sift_end))]
+fn sift(heap: &mut EvictionHeap, capacity: usize, start: usize, way: Way) -> Result<(), Refusal>
+    requires { (capacity ≤ 256) × ((start < 256) × InReach way heap.old.len) }
+    ensures { answer_in result heap.new ≡ sift_from (next_of way) 256 capacity heap.old start }
+{
+    let mut p = start;
+    for _step in 0..MAX_CAPACITY {
+        let next = way.next(heap, p);
+        if next == p {
+            return Ok(());
+        }
+        swap(heap, capacity, p, next)?;
+        p = next;
+    }
+    Ok(())
+}
+
+pub fn sift_up(
+    mut heap: EvictionHeap,
+    capacity: usize,
+    start: usize,
+) -> Result<EvictionHeap, Refusal>
     requires { (capacity ≤ 256) × (start < 256) }
-    ensures { try_moved result ≡ sift_up capacity heap start }
+    ensures { answer result ≡ sift_up_rule capacity heap start }
 {
-    let mut p = start;
-    let mut left: usize = 256;
-    while 0 < left {
-        let up = parent(p);
-        let a = heap.entries[p];
-        let b = heap.entries[up];
-        if !a.older_than(b) {
-            return Moved {
-                heap: heap,
-                answer: Done::Done,
-            };
-        }
-        let i = a.slot as usize;
-        let j = b.slot as usize;
-        if capacity <= j {
-            return refused(heap, STOP);
-        }
-        if capacity <= i {
-            return refused(heap, STOP);
-        }
-        heap.entries[p] = b;
-        heap.entries[up] = a;
-        heap.positions[j] = p as u16;
-        heap.positions[i] = up as u16;
-        p = up;
-        left -= 1;
-    }
-    Moved {
-        heap: heap,
-        answer: Done::Done,
-    }
+    sift(&mut heap, capacity, start, Way::Up)?;
+    Ok(heap)
 }
 
-// As for sift_up, the caller hands back its own heap where this is refused.
-pub fn sift_down(mut heap: EvictionHeap, capacity: usize, start: usize) -> Moved
+pub fn sift_down(
+    mut heap: EvictionHeap,
+    capacity: usize,
+    start: usize,
+) -> Result<EvictionHeap, Refusal>
     requires { (capacity ≤ 256) × ((start < 256) × (heap.len ≤ 256)) }
-    ensures { try_moved result ≡ sift_down capacity heap start }
+    ensures { answer result ≡ sift_down_rule capacity heap start }
 {
-    let mut p = start;
-    let mut left: usize = 256;
-    while 0 < left {
-        let first = p * 2 + 1;
-        if heap.len <= first {
-            return Moved {
-                heap: heap,
-                answer: Done::Done,
-            };
-        }
-        let second = right(heap.len, p);
-        let l = heap.entries[first];
-        let r = heap.entries[second];
-        let down = child(first, second, l, r);
-        let a = heap.entries[p];
-        let b = heap.entries[down];
-        if !b.older_than(a) {
-            return Moved {
-                heap: heap,
-                answer: Done::Done,
-            };
-        }
-        let i = a.slot as usize;
-        let j = b.slot as usize;
-        if capacity <= j {
-            return refused(heap, STOP);
-        }
-        if capacity <= i {
-            return refused(heap, STOP);
-        }
-        heap.entries[p] = b;
-        heap.entries[down] = a;
-        heap.positions[j] = p as u16;
-        heap.positions[i] = down as u16;
-        p = down;
-        left -= 1;
-    }
-    Moved {
-        heap: heap,
-        answer: Done::Done,
-    }
+    sift(&mut heap, capacity, start, Way::Down)?;
+    Ok(heap)
 }
