@@ -1,18 +1,15 @@
 -- SPDX-License-Identifier: Apache-2.0
 -- `index_chains::remove` meets its contract: the rest of the search answers what the whole search does. Assumes nothing.
-use Prim.Native.Nat.{◌<◌}
+use Prim.Native.Nat.{◌-◌, ◌<◌}
 use mathlib.Core.Path.{◌≡◌}
-use mathlib.Core.Logic.{◌⊎◌}
-use lib.ListN.{get_or}
-use Rattle.basics.specs.Numbers.{NONE}
-use Rattle.index.specs.Chain.{CHAIN, remove_from}
+use Rattle.std.specs.Prelude.{IfSome}
+use Rattle.index.specs.Chain.{CHAIN, remove_from, remove_index}
+use Rattle.index_chains.proofs.Cases.{place_of}
 use Rattle.index_chains.proofs.remove.Given as goal
 
-abbrev pub invariant-loop-left : goal.invariant-loop-left
-invariant-loop-left l =
-    (l.index ≡ l.initial.index) ×
-    (((l.previous ≡ NONE) ⊎ (l.previous < 256)) ×
-    (remove_from l.left l.capacity l.initial.index l.bucket l.target l.previous l.slot ≡ remove_from CHAIN l.capacity l.initial.index l.bucket l.target NONE (get_or l.initial.index.heads l.bucket 0)))
-
-abbrev pub decreases-loop-left : goal.decreases-loop-left
-decreases-loop-left l = l.left
+abbrev pub invariant-loop : goal.invariant-loop
+invariant-loop l = record {
+  same : l.index ≡ l.fn.index;
+  inside : IfSome l.previous (λ place. place < 256);
+  rest : remove_from (CHAIN - l.counter) l.capacity l.fn.index l.bucket l.target (place_of l.previous) l.slot ≡ remove_index l.capacity l.fn.index l.fn.key l.target;
+}
