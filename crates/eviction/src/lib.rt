@@ -15,7 +15,7 @@ ghost use Rattle.eviction.specs.Victim.{candidate_at, oldest_of, victim_of};
 use basics::{MAX_CAPACITY, Refusal};
 
 // In the order of age: by the last use, then by the slot.
-#[derive(Clone, Copy, PartialEq, Eq, PartialOrd, Ord)]
+#[derive(Clone, Copy, Default, PartialEq, Eq, PartialOrd, Ord)]
 pub struct Entry {
     pub last_access: u64,
     pub slot: u16,
@@ -43,12 +43,8 @@ impl EvictionHeap {
     pub fn none() -> EvictionHeap
         ensures { result ≡ no_heap }
     {
-        let blank = Entry {
-            last_access: 0,
-            slot: 0,
-        };
         EvictionHeap {
-            entries: [blank; 256],
+            entries: [Entry::default(); 256],
             len: 0,
             positions: [0; 256],
         }

@@ -3,152 +3,102 @@
 // Ported from src/fs/cache/state/eviction.rs of HypeR-Proj/kernel at 53afd06a1d, changed; see NOTICE.
 
 // state/eviction.rs, the changes of the heap: insert, touch and remove. Each function works on any value: where the Rust would stop, the answer
-// is the refusal 10 and the heap is as it came.
+// is the refusal `Stop`, and the caller keeps the heap that it had.
 #![tactic(auto)]
 
-ghost use Rattle.std.specs.Prelude.{◌≡◌};
-ghost use Rattle.eviction.specs.Answers.{moved_of};
-ghost use Rattle.eviction.specs.Heap.{insert_heap, touch_heap, remove_heap};
+ghost use Rattle.std.specs.Prelude.{◌≡◌, ◌<◌, ◌≤◌, IfOk};
+ghost use Rattle.basics.specs.Answers.{answer};
+ghost use Rattle.eviction.specs.Heap.{insert_heap, place_of as place_rule, touch_heap, remove_heap};
 
-use basics::{Done, MAX_CAPACITY, NONE, STOP};
-use eviction::{Entry, EvictionHeap, Moved};
-use eviction_swaps::{parent, refused, sift_down, sift_up};
+use basics::{NONE, Refusal};
+use eviction::{Entry, EvictionHeap};
+use eviction_swaps::{sift_down, sift_up, up_to};
 
-// The slot goes in at the end, and up from there. What a refused sift leaves to take back is the entry, the length and the place.
-pub fn insert(mut heap: EvictionHeap, capacity: usize, slot: usize, last_access: u64) -> Moved
-    ensures { result ≡ moved_of heap (insert_heap capacity heap slot last_access) }
+// The slot goes in at the end, and up from there.
+#[tactic(auto, using(basics::proofs::Tests::tests), unfolding(eviction::specs::Heap::insert_heap, eviction::specs::Entries::sized))]
+pub fn insert(
+    mut heap: EvictionHeap,
+    capacity: usize,
+    slot: usize,
+    last_access: u64,
+) -> Result<EvictionHeap, Refusal>
+    ensures { answer result ≡ insert_heap capacity heap slot last_access }
 {
-    if MAX_CAPACITY < capacity {
-        return refused(heap, STOP);
+    heap.check_sized(capacity)?;
+    let end = heap.len;
+    if capacity <= slot || heap.positions[slot] != NONE || capacity <= end {
+        return Err(Refusal::Stop);
     }
-    let n = heap.len;
-    if capacity < n {
-        return refused(heap, STOP);
-    }
-    if capacity <= slot {
-        return refused(heap, STOP);
-    }
-    let place = heap.positions[slot];
-    if place != NONE {
-        return refused(heap, STOP);
-    }
-    if capacity <= n {
-        return refused(heap, STOP);
-    }
-    let old = heap.entries[n];
-    heap.entries[n] = Entry {
+    heap.entries[end] = Entry {
+        last_access,
         slot: slot as u16,
-        last_access: last_access,
     };
-    heap.len = n + 1;
-    heap.positions[slot] = n as u16;
-    let m = sift_up(heap, capacity, n);
-    let answer = m.answer;
-    if let Done::Refused(why) = answer {
-        heap.entries[n] = old;
-        heap.len = n;
-        heap.positions[slot] = place;
-        return refused(heap, why);
-    }
-    m
+    heap.positions[slot] = end as u16;
+    heap.len = end + 1;
+    sift_up(heap, capacity, end)
 }
 
-// The slot's entry takes a greater last use, and goes down from there. What a refused sift leaves to take back is the entry.
-pub fn touch(mut heap: EvictionHeap, capacity: usize, slot: usize, last_access: u64) -> Moved
-    ensures { result ≡ moved_of heap (touch_heap capacity heap slot last_access) }
+// The place of a slot, whose entry names the slot.
+#[tactic(auto, using(basics::proofs::Tests::tests), unfolding(eviction::specs::Heap::place_of, eviction::specs::Entries::sized))]
+fn place_of(heap: &EvictionHeap, capacity: usize, slot: usize) -> Result<usize, Refusal>
+    ensures value { answer result ≡ place_rule capacity heap.now slot }
+    ensures within { IfOk result (λ place. (place < heap.now.len) × ((heap.now.len ≤ capacity) × ((slot < capacity) × (capacity ≤ 256)))) }
 {
-    if MAX_CAPACITY < capacity {
-        return refused(heap, STOP);
-    }
-    if capacity < heap.len {
-        return refused(heap, STOP);
-    }
+    heap.check_sized(capacity)?;
     if capacity <= slot {
-        return refused(heap, STOP);
+        return Err(Refusal::Stop);
     }
-    let p = heap.positions[slot] as usize;
-    if heap.len <= p {
-        return refused(heap, STOP);
+    let place = usize::from(heap.positions[slot]);
+    if heap.len <= place || usize::from(heap.entries[place].slot) != slot {
+        return Err(Refusal::Stop);
     }
-    let old = heap.entries[p];
-    let named = old.slot as usize;
-    if named != slot {
-        return refused(heap, STOP);
+    Ok(place)
+}
+
+// The slot's entry takes a greater last use, and goes down from there.
+#[tactic(auto, using(basics::proofs::Tests::tests), unfolding(eviction::specs::Heap::touch_heap, eviction::specs::Heap::touch_at))]
+pub fn touch(
+    mut heap: EvictionHeap,
+    capacity: usize,
+    slot: usize,
+    last_access: u64,
+) -> Result<EvictionHeap, Refusal>
+    ensures { answer result ≡ touch_heap capacity heap slot last_access }
+{
+    let place = place_of(&heap, capacity, slot)?;
+    if last_access <= heap.entries[place].last_access {
+        return Err(Refusal::Stop);
     }
-    if last_access <= old.last_access {
-        return refused(heap, STOP);
-    }
-    heap.entries[p] = Entry {
+    heap.entries[place] = Entry {
+        last_access,
         slot: slot as u16,
-        last_access: last_access,
     };
-    let m = sift_down(heap, capacity, p);
-    let answer = m.answer;
-    if let Done::Refused(why) = answer {
-        heap.entries[p] = old;
-        return refused(heap, why);
-    }
-    m
+    sift_down(heap, capacity, place)
 }
 
 // The last entry takes the slot's place, and moves up or down from there.
-pub fn remove(heap: EvictionHeap, capacity: usize, slot: usize) -> Moved
-    ensures { result ≡ moved_of heap (remove_heap capacity heap slot) }
+#[tactic(auto, using(basics::proofs::Tests::tests), unfolding(eviction::specs::Heap::remove_heap, eviction::specs::Heap::remove_at, eviction::specs::Heap::popped, eviction::specs::Heap::put_at, eviction::specs::Heap::settle))]
+pub fn remove(mut heap: EvictionHeap, capacity: usize, slot: usize) -> Result<EvictionHeap, Refusal>
+    ensures { answer result ≡ remove_heap capacity heap slot }
 {
-    if MAX_CAPACITY < capacity {
-        return refused(heap, STOP);
+    let place = place_of(&heap, capacity, slot)?;
+    let end = heap.len - 1;
+    let last = heap.entries[end];
+    heap.entries[end] = Entry::default();
+    heap.len = end;
+    heap.positions[slot] = NONE;
+    if place == end {
+        return Ok(heap);
     }
-    if capacity < heap.len {
-        return refused(heap, STOP);
+    let moved = usize::from(last.slot);
+    if capacity <= moved {
+        return Err(Refusal::Stop);
     }
-    if capacity <= slot {
-        return refused(heap, STOP);
+    heap.entries[place] = last;
+    heap.positions[moved] = place as u16;
+    if up_to(&heap, place) == place {
+        sift_down(heap, capacity, place)
+    } else {
+        sift_up(heap, capacity, place)
     }
-    let p = heap.positions[slot] as usize;
-    if heap.len <= p {
-        return refused(heap, STOP);
-    }
-    let e = heap.entries[p];
-    let named = e.slot as usize;
-    if named != slot {
-        return refused(heap, STOP);
-    }
-    let n = heap.len - 1;
-    let last = heap.entries[n];
-    let blank = Entry {
-        slot: 0,
-        last_access: 0,
-    };
-    let mut g = heap;
-    g.entries[n] = blank;
-    g.len = n;
-    g.positions[slot] = NONE;
-    if p == n {
-        return Moved {
-            heap: g,
-            answer: Done::Done,
-        };
-    }
-    let i = last.slot as usize;
-    if capacity <= i {
-        return refused(heap, STOP);
-    }
-    g.entries[p] = last;
-    g.positions[i] = p as u16;
-    let moved = g.entries[p];
-    let above = g.entries[parent(p)];
-    if moved.older_than(above) {
-        let m = sift_up(g, capacity, p);
-        let answer = m.answer;
-        if let Done::Refused(why) = answer {
-            return refused(heap, why);
-        }
-        return m;
-    }
-    let m = sift_down(g, capacity, p);
-    let answer = m.answer;
-    if let Done::Refused(why) = answer {
-        return refused(heap, why);
-    }
-    m
 }
