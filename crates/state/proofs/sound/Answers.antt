@@ -1,18 +1,12 @@
 -- SPDX-License-Identifier: Apache-2.0
 -- `sound` meets its contract: the bucket count stands for the test of the capacity. Assumes nothing.
-use mathlib.Core.Path.{sym}
-use Rattle.basics.proofs.Tests.{tests}
-use Rattle.state.proofs.Cases.{no_count, count_tested}
+use Rattle.std.proofs.Common.{arith}
+use Rattle.std.proofs.lemmas.Grind.{common_steps}
+use Rattle.state.proofs.Cases.{sizes_told}
 use Rattle.state.proofs.sound.Goals as goal
 
-pub returns-in_default : goal.returns-in_default
-returns-in_default c = sym (no_count _ _ _ _ c.bucket_count-count.ensures c.in_default.is)
+pub returns-then-free_len-capacity : goal.returns-then-free_len-capacity
+returns-then-free_len-capacity c = let e = sizes_told c.args.capacity c.args.buckets c.args.free_len c.args.heap_len _ _ c.bucket_count.ensures c.eq.ensures in rw e (grind (arith, common_steps))
 
-pub returns-then-buckets-right : goal.returns-then-buckets-right
-returns-then-buckets-right c = rw (count_tested _ _ _ _ c.bucket_count-count.ensures c.in-Of.is) (search tests)
-
-pub returns-then-capacity-free_len : goal.returns-then-capacity-free_len
-returns-then-capacity-free_len c = rw (count_tested _ _ _ _ c.bucket_count-count.ensures c.in-Of.is) (search tests)
-
-pub returns : goal.returns
-returns c = rw (count_tested _ _ _ _ c.bucket_count-count.ensures c.in-Of.is) (search tests)
+pub returns-else-free_len-capacity : goal.returns-else-free_len-capacity
+returns-else-free_len-capacity c = let e = sizes_told c.args.capacity c.args.buckets c.args.free_len c.args.heap_len _ _ c.bucket_count.ensures c.eq.ensures in rw e (grind (arith, common_steps))
