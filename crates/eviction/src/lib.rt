@@ -21,6 +21,7 @@ pub struct Entry {
     pub slot: u16,
 }
 
+// No arrayvec: the rules read the places past the length too ("other places past a length are 0").
 #[derive(Clone, Copy)]
 pub struct EvictionHeap {
     pub entries: [Entry; 256],

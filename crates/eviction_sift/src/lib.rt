@@ -3,7 +3,7 @@
 // Ported from src/fs/cache/state/eviction.rs of HypeR-Proj/kernel at 53afd06a1d, changed; see NOTICE.
 
 // state/eviction.rs, the changes of the heap: insert, touch and remove. Each function works on any value: where the Rust would stop, the answer
-// is the refusal `Stop`, and the caller keeps the heap that it had.
+// is the refusal `Stop`, and the caller keeps the heap that it had. Each `as u16` is proved to lose nothing; `try_from` could fail.
 #![tactic(auto)]
 
 ghost use Rattle.std.specs.Prelude.{◌≡◌, ◌<◌, ◌≤◌, IfOk};

@@ -77,6 +77,7 @@ fn swap(heap: &mut EvictionHeap, capacity: usize, i: usize, j: usize) -> Result<
         return Err(Refusal::Stop);
     }
     heap.entries.swap(i, j);
+    // `as u16` here is proved to lose nothing; `try_from` could fail.
     heap.positions[b] = i as u16;
     heap.positions[a] = j as u16;
     Ok(())
@@ -110,7 +111,7 @@ fn sift(heap: &mut EvictionHeap, capacity: usize, start: usize, way: Way) -> Res
     ensures { answer_in result heap.new ≡ sift_from (next_of way) 256 capacity heap.old start }
 {
     let mut p = start;
-    for _step in 0..MAX_CAPACITY {
+    for _ in 0..MAX_CAPACITY {
         let next = way.next(heap, p);
         if next == p {
             return Ok(());

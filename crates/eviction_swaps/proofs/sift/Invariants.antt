@@ -6,7 +6,7 @@ use Rattle.eviction.specs.Sift.{sift_from}
 use Rattle.eviction_swaps.specs.Way.{next_of, InReach}
 use Rattle.eviction_swaps.proofs.sift.Given as goal
 
-abbrev pub invariant-loop-step : goal.invariant-loop-step
-invariant-loop-step l =
-    (sift_from (next_of l.way) (256 - l._step) l.capacity l.heap l.p ≡ sift_from (next_of l.way) 256 l.capacity l.initial.heap l.start)
+abbrev pub invariant-loop : goal.invariant-loop
+invariant-loop l =
+    (sift_from (next_of l.way) (256 - l.counter) l.capacity l.heap l.p ≡ sift_from (next_of l.way) 256 l.capacity l.initial.heap l.start)
     × ((l.p < 256) × InReach l.way l.heap.len)
