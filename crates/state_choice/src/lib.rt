@@ -3,62 +3,58 @@
 // Ported from src/fs/cache/state/mod.rs of HypeR-Proj/kernel at 53afd06a1d, changed; see NOTICE.
 
 // state/mod.rs, the choice of the slot that an absent key is loaded into: the top of the free stack, else a victim. Every function works on any
-// index, heap and pin bytes.
+// table, heap and pin bytes.
 #![tactic(auto)]
 
 ghost use Rattle.std.specs.Prelude.{◌≡◌};
+ghost use Rattle.basics.specs.Answers.{found_answer};
 ghost use Rattle.state.specs.Access.{choose as choose_rule};
-ghost use Rattle.eviction.specs.Answers.{cold_answer};
 ghost use Rattle.state.specs.Victim.{victim as victim_rule, target as target_rule};
 
-use eviction::{Cold, EvictionHeap};
-use index::{Index, Room, Top};
+use basics::Refusal;
+use eviction::EvictionHeap;
 use key::CacheKey;
+use state::State;
 
 // The heap places that the victim search looks at.
 pub const PLACES: usize = 64;
 
 // The first unpinned slot among the first min(clean, 64) heap places.
-pub fn victim(capacity: usize, heap: EvictionHeap, clean: usize, pins: &[u8]) -> Cold
-    ensures { cold_answer result ≡ victim_rule capacity heap clean pins.now }
+#[tactic(auto, unfolding(state::specs::Victim::victim))]
+pub fn victim(
+    capacity: usize,
+    heap: &EvictionHeap,
+    clean: usize,
+    pins: &[u8],
+) -> Result<Option<usize>, Refusal>
+    ensures { found_answer result ≡ victim_rule capacity heap.now clean pins.now }
 {
-    if clean < PLACES {
-        return heap.victim(capacity, clean, pins);
-    }
-    heap.victim(capacity, PLACES, pins)
+    heap.victim(capacity, clean.min(PLACES), pins)
 }
 
 // The top of the free stack, else a victim.
-fn target(capacity: usize, index: Index, heap: EvictionHeap, clean: usize, pins: &[u8]) -> Cold
-    ensures { cold_answer result ≡ target_rule capacity index heap clean pins.now }
+#[tactic(auto, unfolding(state::specs::Victim::target, state::specs::Victim::target_or))]
+fn target(t: &State, pins: &[u8]) -> Result<Option<usize>, Refusal>
+    ensures { found_answer result ≡ target_rule t.now.capacity t.now.index t.now.eviction t.now.clean pins.now }
 {
-    let top = index.vacant(capacity);
-    match top {
-        Top::Refused(why) => Cold::Refused(why),
-        Top::At(slot) => Cold::At(slot),
-        Top::Nothing => victim(capacity, heap, clean, pins),
+    match t.index.vacant(t.capacity)? {
+        None => victim(t.capacity, &t.eviction, t.clean, pins),
+        top => Ok(top),
     }
 }
 
 // The slot to load an absent key into, or none where the answer is CapacityBusy.
+#[tactic(auto, unfolding(state::specs::Access::choose))]
 pub fn choose(
-    capacity: usize,
-    index: Index,
-    heap: EvictionHeap,
-    clean: usize,
+    t: &State,
     key: CacheKey,
     allow_load: bool,
     pins: &[u8],
-) -> Cold
-    ensures { cold_answer result ≡ choose_rule capacity index heap clean key allow_load pins.now }
+) -> Result<Option<usize>, Refusal>
+    ensures { found_answer result ≡ choose_rule t.now.capacity t.now.index t.now.eviction t.now.clean key allow_load pins.now }
 {
-    if !allow_load {
-        return Cold::Nothing;
+    if !allow_load || !index_chains::can_insert(&t.index, t.capacity, key)? {
+        return Ok(None);
     }
-    let room = index_chains::can_insert(index, capacity, key);
-    match room {
-        Room::Refused(why) => Cold::Refused(why),
-        Room::No => Cold::Nothing,
-        Room::Yes => target(capacity, index, heap, clean, pins),
-    }
+    target(t, pins)
 }
