@@ -1,9 +1,8 @@
 -- SPDX-License-Identifier: Apache-2.0
 -- The line of text that a record is shown as: the call's word with its number, then every field that is not what is usual, by its name. A record with
 -- something in a field that its call does not use is shown as `record`, with every field that is not 0.
-use Rattle.std.specs.Prelude.{ℕ, zero, suc, Bool, true, false, List, [], ◌∷◌, ◌++◌, eqb, length, take, drop, if◌then◌else◌}
+use Rattle.std.specs.Prelude.{ℕ, zero, suc, Bool, true, false, List, [], ◌∷◌, ◌++◌, eqb, length, take, drop, Option, Some, None, if◌then◌else◌}
 use Rattle.sheet_lines.specs.declared.Record.{Record}
-use Rattle.sheet_lines.specs.declared.Read.{Read}
 use Rattle.sheet_lines.specs.Record.{read_record}
 use Rattle.sheet_lines.specs.Text.{bytes_of, decimal, NEWLINE}
 use Rattle.sheet_show.specs.declared.Text.{Text}
@@ -57,9 +56,9 @@ shown r =
     ++ NEWLINE ∷ []
 
 -- the lines of some records, up to the first that is bad, and of at most as many as steps are left
-abbrev pub line_before : Read → List ℕ → List ℕ
-line_before (Read.Whole r) more = shown r ++ more
-line_before Read.Bad more = []
+abbrev pub line_before : Option Record → List ℕ → List ℕ
+line_before (Some r) more = shown r ++ more
+line_before None more = []
 
 unfoldable pub listed_text : ℕ → List ℕ → List ℕ
 listed_text zero bytes = []
