@@ -1,17 +1,17 @@
 -- SPDX-License-Identifier: Apache-2.0
 -- The line of text that a record is shown as: the call's word with its number, then every field that is not what is usual, by its name. A record with
 -- something in a field that its call does not use is shown as `record`, with every field that is not 0.
-use Rattle.std.specs.Prelude.{ℕ, zero, suc, Bool, true, false, List, [], ◌∷◌, ◌++◌, eqb, length, take, drop, Option, Some, None, if◌then◌else◌}
+use Rattle.std.specs.Prelude.{ℕ, zero, suc, Bool, true, false, List, [], ◌∷◌, ◌++◌, eqb, length, drop, Option, Some, None, if◌then◌else◌}
 use Rattle.sheet_lines.specs.declared.Record.{Record}
 use Rattle.sheet_lines.specs.Record.{read_record}
 use Rattle.sheet_lines.specs.Text.{bytes_of, decimal, NEWLINE}
-use Rattle.sheet_show.specs.declared.Text.{Text}
+use Rattle.arrayvec.specs.ArrayVec.{ArrayVec}
 use Rattle.sheet_record.specs.Good.{bit_of}
 use Rattle.sheet_uses.specs.Uses.{uses_number, only_used}
 
--- the text in the code's list of bytes
-abbrev pub text_of : Text → List ℕ
-text_of t = take t.len t.bytes
+-- the code's text
+abbrev pub text_of : ArrayVec ℕ → List ℕ
+text_of t = t.items
 
 -- a field with its name, where it is not what is usual
 unfoldable pub field_text : List ℕ → ℕ → ℕ → List ℕ
