@@ -1,6 +1,6 @@
 -- SPDX-License-Identifier: Apache-2.0
 -- Every record leaves what stands in order, and says only what its code can. Assumes nothing.
-use Rattle.std.proofs.Common.{if◌then◌else◌}
+use Rattle.std.proofs.Common.{Some, None, if◌then◌else◌}
 use Prim.Native.Nat.{ℕ, ◌≤◌, ◌^◌}
 use native.Mathlib.Omega.{arith}
 use mathlib.Core.Path.{◌≡◌, refl, sym, ap, subst}
@@ -26,7 +26,6 @@ use Rattle.maintenance_reclaim.specs.Reclaim.{reclaim}
 use Rattle.maintenance_resize.specs.Answers.{Size, unchanged, busy_now, resized}
 use Rattle.maintenance_resize.specs.Resize.{resize}
 use Rattle.sheet_lines.specs.declared.Record.{Record}
-use Rattle.sheet_lines.specs.declared.Read.{Read}
 use Rattle.sheet_lines.specs.declared.Said.{Said}
 use Rattle.sheet_lines.specs.Record.{byte_at, in_range, fields_of, read_record}
 use Rattle.sheet_standing.specs.declared.Standing.{Standing}
@@ -188,7 +187,7 @@ module _ (s : Standing) (st : s.stands ≡ true) (n : ℕ) (g : InOrder s.state 
       ]
 
 -- ── every record ──
-module _ (s : Standing) (n : ℕ) (k : Counted n s.state) (bytes : List ℕ) (r : Record) (w : read_record bytes ≡ Read.Whole r) where
+module _ (s : Standing) (n : ℕ) (k : Counted n s.state) (bytes : List ℕ) (r : Record) (w : read_record bytes ≡ Some r) where
   later_fair : (r.code ≡ 1 → ⊥) → Orderly s → Fair n r.code (step s bytes)
   unfolding start
   later_fair ne (unmade! e) = rw (step_before s bytes r refl w ne (ap (λ (x : Standing). not x.stands) e)) (stays s n r.code Said.Bad (unmade! e) k refl)
@@ -203,11 +202,11 @@ module _ (s : Standing) (n : ℕ) (k : Counted n s.state) (bytes : List ℕ) (r 
         | no! e ↦ later_fair (eqb-false r.code 1 e) o
       ]
 
-read_whole : (bytes : List ℕ) → in_range bytes ≡ true → read_record bytes ≡ Read.Whole (fields_of bytes)
+read_whole : (bytes : List ℕ) → in_range bytes ≡ true → read_record bytes ≡ Some (fields_of bytes)
 unfolding read_record
 read_whole bytes e = rw e
 
-read_bad : (bytes : List ℕ) → in_range bytes ≡ false → read_record bytes ≡ Read.Bad
+read_bad : (bytes : List ℕ) → in_range bytes ≡ false → read_record bytes ≡ None
 unfolding read_record
 read_bad bytes e = rw e
 

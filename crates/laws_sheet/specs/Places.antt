@@ -1,13 +1,12 @@
 -- SPDX-License-Identifier: Apache-2.0
 -- What a record does to the token places and what it leaves as it was, of every standing and every record.
-use Rattle.std.specs.Prelude.{ℕ, ◌<◌, ◌≡◌, true, false, List, ◌⊎◌, set}
+use Rattle.std.specs.Prelude.{ℕ, ◌<◌, ◌≡◌, true, false, List, ◌⊎◌, set, Some}
 use Rattle.std.proofs.Math.Option.{Option, none, some}
 use Rattle.basics.specs.Try.{Try, ok, refuse}
 use Rattle.basics.specs.Refusals.{STALE}
 use Rattle.state.specs.declared.LoadToken.{LoadToken}
 use Rattle.state.specs.Answers.{Given, hit, in_progress, reserved, evicted, busy}
 use Rattle.sheet_lines.specs.declared.Record.{Record}
-use Rattle.sheet_lines.specs.declared.Read.{Read}
 use Rattle.sheet_lines.specs.declared.Said.{Said}
 use Rattle.sheet_standing.specs.declared.Place.{Place}
 use Rattle.sheet_standing.specs.declared.Standing.{Standing}
@@ -17,7 +16,7 @@ use Rattle.sheet_steps.specs.Steps.{access_of, step_record}
 
 -- the step of a record that was read
 abbrev pub step_of : Standing → Record → Stepped
-step_of s r = step_record s (Read.Whole r)
+step_of s r = step_record s (Some r)
 
 -- "A refused 1 leaves all as it was"
 abbrev pub RefusedNew : Type 0

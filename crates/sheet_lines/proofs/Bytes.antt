@@ -1,16 +1,17 @@
 -- SPDX-License-Identifier: Apache-2.0
--- Laws on bytes: the digits of a number one at a time, numbers of four and eight bytes. Assumes nothing.
-use Prim.Native.Nat.{ℕ, zero, suc, ◌+◌, ◌-◌, ◌*◌, ◌/◌, ◌%◌, ◌≤◌, ◌<◌}
+-- Laws on the digits of a number: one at a time, and that they are those of std's `decimal`. Assumes nothing.
+use Prim.Native.Nat.{ℕ, zero, suc, ◌-◌, ◌/◌, ◌%◌, ◌^◌, ◌≤◌, ◌<◌}
 use native.Mathlib.Omega.{arith}
-use mathlib.Core.Path.{◌≡◌, refl}
-use mathlib.Core.List.{List, [], ◌∷◌, ◌++◌}
-use borrow.Author.Tests.{lt-ltb, le-ltb}
+use mathlib.Core.Path.{◌≡◌, sym, ◌∙◌, ap}
+use mathlib.Core.List.{List, [], ◌∷◌, ◌++◌, append_assoc, append-nil}
+use borrow.Author.Tests.{lt-ltb, le-ltb, ltb-true, ltb-false}
 use Rattle.basics.proofs.Tests.{is, yes!, no! }
 use lib.Dec.{ltb}
+use Rattle.std.specs.Fmt.{decimal as std_decimal}
+use Rattle.std.proofs.lemmas.Fmt.{decimal_digit, decimal_step, length-decimal-le}
+use lib.ListN.{length}
 use Rattle.sheet_lines.specs.Text.{digit, digits_from, decimal}
-use Rattle.sheet_lines.specs.Record.{byte_at, low}
 
--- ---- digits, one at a time
 pub last_digit : (left n : ℕ) (behind : List ℕ) → 0 < left → n < 10 → digits_from left n behind ≡ digit n ∷ behind
 unfolding digits_from
 last_digit zero n behind p h = absurd (omega arith)
@@ -21,36 +22,29 @@ unfolding digits_from
 more_digits zero n behind p h = absurd (omega arith)
 more_digits (suc left) n behind p h = let e : suc left - 1 ≡ left = omega arith in rw (le-ltb n 10 h, e)
 
-pub no_digits : (left n : ℕ) (behind : List ℕ) → left ≤ 0 → digits_from left n behind ≡ behind
-unfolding digits_from
-no_digits zero n behind h = refl
-no_digits (suc left) n behind h = absurd (omega arith)
-
--- what stands behind stays behind
-digits_behind : (left n : ℕ) (front behind : List ℕ) → digits_from left n (front ++ behind) ≡ digits_from left n front ++ behind
-unfolding digits_from
-digits_behind zero n front behind = refl
-digits_behind (suc left) n front behind = elim (is (ltb n 10)) [
-  | yes! e ↦ rw e
-  | no! e ↦ rw e (digits_behind left (n / 10) (digit (n % 10) ∷ front) behind)
+all_digits : (left n : ℕ) (behind : List ℕ) → n < 10 ^ left → 0 < left → n < 2 ^ 64 → digits_from left n behind ≡ std_decimal n ++ behind
+all_digits zero n behind h p w = absurd (omega arith)
+all_digits (suc zero) n behind h p w =
+    let s : n < 10 = omega arith in
+    last_digit 1 n behind p s ∙ ap (λ l. l ++ behind) (sym (decimal_digit n s))
+all_digits (suc (suc left)) n behind h p w = elim (is (ltb n 10)) [
+  | yes! e ↦
+      let s = ltb-true n 10 e in
+      last_digit (suc (suc left)) n behind p s ∙ ap (λ l. l ++ behind) (sym (decimal_digit n s))
+  | no! e ↦
+      let s = ltb-false n 10 e in
+      let o : suc (suc left) - 1 ≡ suc left = omega arith in
+      let less : n / 10 < 10 ^ suc left = omega arith in
+      more_digits (suc (suc left)) n behind p s
+      ∙ ap (λ k. digits_from k (n / 10) (digit (n % 10) ∷ behind)) o
+      ∙ all_digits (suc left) (n / 10) (digit (n % 10) ∷ behind) less (omega arith) (omega arith)
+      ∙ sym (append_assoc (std_decimal (n / 10)) (digit (n % 10) ∷ []) behind)
+      ∙ ap (λ l. l ++ behind) (sym (decimal_step n s w))
 ]
 
-pub decimal_front : (n : ℕ) (behind : List ℕ) → digits_from 20 n behind ≡ decimal n ++ behind
+pub decimal_same : (n : ℕ) → n < 2 ^ 64 → decimal n ≡ std_decimal n
 unfolding decimal
-decimal_front n behind = digits_behind 20 n [] behind
+decimal_same n w = all_digits 20 n [] (omega arith) (omega arith) w ∙ append-nil (std_decimal n)
 
--- ---- numbers low byte first
-pub low_4_lem : (bytes : List ℕ) (at : ℕ) → low 4 bytes at ≡ byte_at bytes at + 256 * (byte_at bytes (at + 1) + 256 * (byte_at bytes (at + 2) + 256 * byte_at bytes (at + 3)))
-unfolding low
-low_4_lem bytes at =
-    let two : at + 1 + 1 ≡ at + 2 = omega arith in
-    let three : at + 2 + 1 ≡ at + 3 = omega arith in
-    rw (two, three) (omega arith)
-
-pub low_8_lem : (bytes : List ℕ) (at : ℕ) → low 8 bytes at ≡ low 4 bytes at + 4294967296 * low 4 bytes (at + 4)
-unfolding low
-low_8_lem bytes at =
-    let two : at + 1 + 1 ≡ at + 2 = omega arith in
-    let three : at + 2 + 1 ≡ at + 3 = omega arith in
-    let four : at + 3 + 1 ≡ at + 4 = omega arith in
-    rw (two, three, four) (omega arith)
+pub decimal_length : (n : ℕ) → n < 2 ^ 64 → length (std_decimal n) ≤ 20
+decimal_length n w = length-decimal-le 20 n (omega arith) (omega arith) w

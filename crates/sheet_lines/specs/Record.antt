@@ -1,8 +1,7 @@
 -- SPDX-License-Identifier: Apache-2.0
 -- "24-byte records .. numbers low byte first: code, allow (0 or 1), kind, token place (0 to 15), a 32-bit number, file, index."
-use Rattle.std.specs.Prelude.{ℕ, zero, suc, ◌+◌, ◌*◌, Bool, ◌&&◌, List, ltb, leb, eqb, length, get_or, if◌then◌else◌}
+use Rattle.std.specs.Prelude.{ℕ, zero, suc, ◌+◌, ◌*◌, Bool, ◌&&◌, List, ltb, leb, eqb, length, get_or, Option, Some, None, if◌then◌else◌}
 use Rattle.sheet_lines.specs.declared.Record.{Record}
-use Rattle.sheet_lines.specs.declared.Read.{Read}
 
 -- the byte at a place
 abbrev pub byte_at : List ℕ → ℕ → ℕ
@@ -28,10 +27,10 @@ fields_of bytes = record {
 }
 
 -- the record at the front of the bytes
-unfoldable pub read_record : List ℕ → Read
-read_record bytes = if in_range bytes then Read.Whole (fields_of bytes) else Read.Bad
+unfoldable pub read_record : List ℕ → Option Record
+read_record bytes = if in_range bytes then Some (fields_of bytes) else None
 
 -- a token place, which the code reads from an array of 16
-abbrev pub place_of : Read → ℕ
-place_of (Read.Whole r) = r.place
-place_of Read.Bad = 0
+abbrev pub place_of : Option Record → ℕ
+place_of (Some r) = r.place
+place_of None = 0

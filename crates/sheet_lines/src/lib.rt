@@ -8,7 +8,8 @@ ghost use Rattle.sheet_lines.specs.Words.{is_bad};
 
 use key::CacheKey;
 
-// A record's fields. The bytes of file, kind and index are a key.
+// A record's fields. The bytes of file, kind and index are a key. The code stays a number: `sheet_record`, `sheet_show` and `sheet_uses` take a record
+// with any.
 #[derive(Clone, Copy)]
 pub struct Record {
     pub code: u8,
@@ -18,14 +19,7 @@ pub struct Record {
     pub key: CacheKey,
 }
 
-// What stands at the front of some bytes.
-#[derive(Clone, Copy)]
-pub enum Read {
-    Whole(Record),
-    Bad,
-}
-
-// The word of a line, with its number.
+// The word of a line, with its number. A refusal stays a number: a line shows any.
 #[derive(Clone, Copy)]
 pub enum Said {
     Made(usize),
@@ -43,7 +37,7 @@ pub enum Said {
     Bad,
 }
 
-// A line of text, filled from the end of its bytes: it begins at `from`.
+// A line of text, filled from the end of its bytes, as digits are found: it begins at `from`.
 #[derive(Clone, Copy)]
 pub struct Line {
     pub bytes: [u8; 96],
@@ -53,71 +47,58 @@ pub struct Line {
 // The bytes of a record.
 pub const RECORD: usize = 24;
 
-fn wide(byte: u8) -> u64
-    ensures value { result ≡ byte }
-    ensures upper_bound { result < 256 }
-{
-    byte as u64
-}
-
 // A number of four bytes, low byte first.
-fn low_4(bytes: &[u8], at: usize) -> u64
+#[tactic(auto, unfolding(crate::specs::Record::low))]
+fn low_4(bytes: &[u8], at: usize) -> u32
     requires { at + 4 ≤ length bytes.now }
-    ensures value { result ≡ low 4 bytes.now at }
-    ensures upper_bound { result < 2 ^ 32 }
+    ensures { result ≡ low 4 bytes.now at }
 {
-    let a = wide(bytes[at]);
-    let b = wide(bytes[at + 1]);
-    let c = wide(bytes[at + 2]);
-    let d = wide(bytes[at + 3]);
-    a + 256 * (b + 256 * (c + 256 * d))
+    u32::from_le_bytes([bytes[at], bytes[at + 1], bytes[at + 2], bytes[at + 3]])
 }
 
 // A number of eight.
+#[tactic(auto, unfolding(crate::specs::Record::low))]
 fn low_8(bytes: &[u8], at: usize) -> u64
     requires { at + 8 ≤ length bytes.now }
     ensures { result ≡ low 8 bytes.now at }
 {
-    let lower = low_4(bytes, at);
-    let upper = low_4(bytes, at + 4);
-    lower + 4294967296 * upper
+    u64::from_le_bytes([
+        bytes[at],
+        bytes[at + 1],
+        bytes[at + 2],
+        bytes[at + 3],
+        bytes[at + 4],
+        bytes[at + 5],
+        bytes[at + 6],
+        bytes[at + 7],
+    ])
 }
 
-// The record at the front of some bytes.
-pub fn read_record(bytes: &[u8]) -> Read
+// The record at the front of some bytes; none where they are too few, or a field is off its range.
+#[tactic(auto, using(basics::proofs::Tests::tests), unfolding(crate::specs::Record::read_record, crate::specs::Record::in_range, crate::specs::Record::fields_of))]
+pub fn read_record(bytes: &[u8]) -> Option<Record>
     ensures value { result ≡ read_record bytes.now }
     ensures result_bound { place_of result < 16 }
 {
     if bytes.len() < RECORD {
-        return Read::Bad;
+        return None;
     }
     let code = bytes[0];
-    if code == 0 {
-        return Read::Bad;
-    }
-    if 9 < code {
-        return Read::Bad;
-    }
     let allow = bytes[1];
-    if 1 < allow {
-        return Read::Bad;
-    }
     let place = bytes[3];
-    if 15 < place {
-        return Read::Bad;
+    if code == 0 || 9 < code || 1 < allow || 15 < place {
+        return None;
     }
-    let number = low_4(bytes, 4);
-    let key = CacheKey {
-        file: low_8(bytes, 8),
-        kind: bytes[2],
-        index: low_8(bytes, 16),
-    };
-    Read::Whole(Record {
-        code: code,
+    Some(Record {
+        code,
         allow: allow == 1,
-        place: place as usize,
-        number: number as usize,
-        key: key,
+        place: usize::from(place),
+        number: low_4(bytes, 4) as usize,
+        key: CacheKey {
+            file: low_8(bytes, 8),
+            kind: bytes[2],
+            index: low_8(bytes, 16),
+        },
     })
 }
 
@@ -125,19 +106,5 @@ pub fn read_record(bytes: &[u8]) -> Read
 pub fn is_bad(said: Said) -> bool
     ensures { result ≡ is_bad said }
 {
-    match said {
-        Said::Made(_) => false,
-        Said::Hit(_) => false,
-        Said::Loading => false,
-        Said::Reserved(_) => false,
-        Said::Evicted(_) => false,
-        Said::Busy => false,
-        Said::Done => false,
-        Said::Nothing => false,
-        Said::Unchanged => false,
-        Said::Resized(_) => false,
-        Said::Reclaimed(_) => false,
-        Said::Refused(_) => false,
-        Said::Bad => true,
-    }
+    matches!(said, Said::Bad)
 }

@@ -1,42 +1,45 @@
 -- SPDX-License-Identifier: Apache-2.0
 -- Laws of a record's bytes: they are read as the record. Assumes nothing.
-use Rattle.std.proofs.Common.{if◌then◌else◌}
-use Prim.Native.Nat.{ℕ, ◌+◌, ◌*◌, ◌/◌, ◌%◌, ◌≤◌, ◌<◌}
+use Rattle.std.proofs.Common.{Some, None, if◌then◌else◌}
+use Prim.Native.Nat.{ℕ, ◌+◌, ◌*◌, ◌^◌, ◌≤◌, ◌<◌}
 use native.Mathlib.Omega.{arith}
-use mathlib.Core.Path.{◌≡◌, refl}
+use mathlib.Core.Path.{◌≡◌, refl, ◌∙◌}
 use mathlib.Core.Bool.{Bool, true, false, ◌&&◌}
-use mathlib.Core.List.{[], ◌∷◌}
+use mathlib.Core.List.{◌∷◌, ◌++◌}
 use lib.Dec.{eqb, ltb, leb}
 use borrow.Author.Tests.{le-leb, lt-leb}
+use Rattle.std.specs.Int.{w32, w64, to_le_bytes, from_bool}
+use Rattle.std.proofs.lemmas.Nat.{from_le_bytes-to_le_bytes_4, from_le_bytes-to_le_bytes_8}
 use Rattle.sheet_lines.specs.declared.Record.{Record}
-use Rattle.sheet_lines.specs.declared.Read.{Read}
 use Rattle.sheet_lines.specs.Record.{low, in_range, fields_of, read_record}
-use Rattle.sheet_record.specs.declared.Four.{Four}
-use Rattle.sheet_record.specs.Good.{good, bit_of, four_value}
+use Rattle.sheet_record.specs.Good.{good}
 
--- the four low bytes of a number are the number below 2^32
-pub four_parts : (n : ℕ) → n % 256 + 256 * (n / 256 % 256 + 256 * (n / 65536 % 256 + 256 * (n / 16777216 % 256))) ≡ n % 4294967296
-four_parts n =
-    let p : n / 65536 ≡ n / 256 / 256 = omega arith in
-    let q : n / 16777216 ≡ n / 65536 / 256 = omega arith in
-    let s : n / 4294967296 ≡ n / 16777216 / 256 = omega arith in
-    omega arith
+-- ---- the bytes of a number are read as the number
+four_lem : (a b c d : ℕ) → a + 256 * (b + 256 * (c + 256 * (d + 256 * 0))) ≡ a + b * 256 ^ 1 + c * 256 ^ 2 + d * 256 ^ 3
+four_lem a b c d = omega arith
+
+eight_lem : (a b c d e f g h : ℕ) → a + 256 * (b + 256 * (c + 256 * (d + 256 * (e + 256 * (f + 256 * (g + 256 * (h + 256 * 0))))))) ≡ a + b * 256 ^ 1 + c * 256 ^ 2 + d * 256 ^ 3 + e * 256 ^ 4 + f * 256 ^ 5 + g * 256 ^ 6 + h * 256 ^ 7
+eight_lem a b c d e f g h = omega arith
+
+four_back : (n : ℕ) → n < 2 ^ 32 → low 4 (to_le_bytes w32 n) 0 ≡ n
+unfolding low
+four_back n h = four_lem _ _ _ _ ∙ from_le_bytes-to_le_bytes_4 n h
+
+eight_back : (n : ℕ) → n < 2 ^ 64 → low 8 (to_le_bytes w64 n) 0 ≡ n
+unfolding low
+eight_back n h = eight_lem _ _ _ _ _ _ _ _ ∙ from_le_bytes-to_le_bytes_8 n h
 
 -- ---- the bytes of a record are read as the record
-bit_one : (b : Bool) → (leb (bit_of b) 1 ≡ true) × (eqb (bit_of b) 1 ≡ b)
+bit_one : (b : Bool) → (leb (from_bool b) 1 ≡ true) × (eqb (from_bool b) 1 ≡ b)
 bit_one true = (refl, refl)
 bit_one false = (refl, refl)
 
-pub reads_back : (r : Record) (flag : ℕ) (n f g i j : Four) → r.place ≤ 15 → r.number ≤ 4294967295 → flag ≡ bit_of r.allow
-    → four_value n ≡ r.number → four_value f + 4294967296 * four_value g ≡ r.key.file → four_value i + 4294967296 * four_value j ≡ r.key.index
-    → read_record (r.code ∷ flag ∷ r.key.kind ∷ r.place ∷ n.a ∷ n.b ∷ n.c ∷ n.d ∷ f.a ∷ f.b ∷ f.c ∷ f.d ∷ g.a ∷ g.b ∷ g.c ∷ g.d ∷ i.a ∷ i.b ∷ i.c ∷ i.d ∷ j.a ∷ j.b ∷ j.c ∷ j.d ∷ [])
-    ≡ (if good r then Read.Whole r else Read.Bad)
+pub reads_back : (r : Record) → r.place ≤ 15 → r.number ≤ 4294967295 → r.key.file < 2 ^ 64 → r.key.index < 2 ^ 64
+    → read_record (r.code ∷ from_bool r.allow ∷ r.key.kind ∷ r.place ∷ to_le_bytes w32 r.number ++ to_le_bytes w64 r.key.file ++ to_le_bytes w64 r.key.index)
+    ≡ (if good r then Some r else None)
 unfolding read_record in_range fields_of good low
-reads_back r flag n f g i j place number flag_is n-is f-is i-is =
-    let n₁ : n.a + 256 * (n.b + 256 * (n.c + 256 * (n.d + 256 * 0))) ≡ r.number = omega arith in
-    let f₁ : f.a + 256 * (f.b + 256 * (f.c + 256 * (f.d + 256 * (g.a + 256 * (g.b + 256 * (g.c + 256 * (g.d + 256 * 0))))))) ≡ r.key.file = omega arith in
-    let i₁ : i.a + 256 * (i.b + 256 * (i.c + 256 * (i.d + 256 * (j.a + 256 * (j.b + 256 * (j.c + 256 * (j.d + 256 * 0))))))) ≡ r.key.index = omega arith in
-    rw (n₁, f₁, i₁, flag_is, (bit_one r.allow).0, (bit_one r.allow).1, le-leb _ _ place, le-leb _ _ number)
+reads_back r place number file index =
+    rw (four_back r.number (omega arith), eight_back r.key.file file, eight_back r.key.index index, (bit_one r.allow).0, (bit_one r.allow).1, le-leb _ _ place, le-leb _ _ number)
 
 -- ---- a record off its range
 and_no : (a : Bool) → a && false ≡ false

@@ -1,8 +1,7 @@
 -- SPDX-License-Identifier: Apache-2.0
 -- The records that a sheet holds: the codes are 1 to 9, the places 0 to 15, the number has 32 bits.
-use Rattle.std.specs.Prelude.{ℕ, ◌+◌, ◌*◌, Bool, ◌&&◌, ltb, leb, if◌then◌else◌}
+use Rattle.std.specs.Prelude.{ℕ, Bool, ◌&&◌, ltb, leb, if◌then◌else◌}
 use Rattle.sheet_lines.specs.declared.Record.{Record}
-use Rattle.sheet_record.specs.declared.Four.{Four}
 
 unfoldable pub good : Record → Bool
 good r = ltb 0 r.code && leb r.code 9 && leb r.place 15 && leb r.number 4294967295
@@ -10,7 +9,3 @@ good r = ltb 0 r.code && leb r.code 9 && leb r.place 15 && leb r.number 42949672
 -- a flag as a number
 abbrev pub bit_of : Bool → ℕ
 bit_of b = if b then 1 else 0
-
--- the number that four bytes are
-abbrev pub four_value : Four → ℕ
-four_value f = f.a + 256 * (f.b + 256 * (f.c + 256 * f.d))

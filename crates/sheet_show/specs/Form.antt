@@ -1,18 +1,17 @@
 -- SPDX-License-Identifier: Apache-2.0
 -- The line of text that a record is shown as: the call's word with its number, then every field that is not what is usual, by its name. A record with
 -- something in a field that its call does not use is shown as `record`, with every field that is not 0.
-use Rattle.std.specs.Prelude.{ℕ, zero, suc, Bool, true, false, List, [], ◌∷◌, ◌++◌, eqb, length, take, drop, if◌then◌else◌}
+use Rattle.std.specs.Prelude.{ℕ, zero, suc, Bool, true, false, List, [], ◌∷◌, ◌++◌, eqb, length, drop, Option, Some, None, if◌then◌else◌}
 use Rattle.sheet_lines.specs.declared.Record.{Record}
-use Rattle.sheet_lines.specs.declared.Read.{Read}
 use Rattle.sheet_lines.specs.Record.{read_record}
 use Rattle.sheet_lines.specs.Text.{bytes_of, decimal, NEWLINE}
-use Rattle.sheet_show.specs.declared.Text.{Text}
+use Rattle.arrayvec.specs.ArrayVec.{ArrayVec}
 use Rattle.sheet_record.specs.Good.{bit_of}
 use Rattle.sheet_uses.specs.Uses.{uses_number, only_used}
 
--- the text in the code's list of bytes
-abbrev pub text_of : Text → List ℕ
-text_of t = take t.len t.bytes
+-- the code's text
+abbrev pub text_of : ArrayVec ℕ → List ℕ
+text_of t = t.items
 
 -- a field with its name, where it is not what is usual
 unfoldable pub field_text : List ℕ → ℕ → ℕ → List ℕ
@@ -57,9 +56,9 @@ shown r =
     ++ NEWLINE ∷ []
 
 -- the lines of some records, up to the first that is bad, and of at most as many as steps are left
-abbrev pub line_before : Read → List ℕ → List ℕ
-line_before (Read.Whole r) more = shown r ++ more
-line_before Read.Bad more = []
+abbrev pub line_before : Option Record → List ℕ → List ℕ
+line_before (Some r) more = shown r ++ more
+line_before None more = []
 
 unfoldable pub listed_text : ℕ → List ℕ → List ℕ
 listed_text zero bytes = []

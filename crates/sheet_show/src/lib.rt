@@ -4,168 +4,139 @@
 #![tactic(auto)]
 
 ghost use Rattle.std.specs.Prelude.{◌≡◌, ◌++◌, ◌+◌, ◌≤◌, length};
+ghost use Rattle.arrayvec.specs.ArrayVec.{array_vec_len};
 ghost use Rattle.sheet_lines.specs.Text.{decimal};
 ghost use Rattle.sheet_show.specs.Form.{shown, word_text, call_text, record_text, head_text, field_text, usual_allow, text_of};
 
+use arrayvec::ArrayVec;
 use sheet_lines::Record;
-use sheet_record::bit;
 use sheet_uses::{only_used, uses_number};
 
 // The bytes that a record's line of text has room in.
 pub const ROOM: usize = 200;
 
-// A record's line: the first bytes.
-#[derive(Clone, Copy)]
-pub struct Text {
-    pub bytes: [u8; 200],
-    pub len: usize,
-}
+// A record's line.
+pub type Text = ArrayVec<u8, ROOM>;
 
 // Some bytes behind a text.
-fn put(text: Text, word: &[u8]) -> Text
-    requires { text.len + length word.now ≤ 200 }
-    ensures result_value { text_of result ≡ text_of text ++ word.now }
-    ensures len_value { result.len ≡ text.len + length word.now }
+fn put(text: &mut Text, word: &[u8])
+    requires { array_vec_len text.old + length word.now ≤ 200 }
+    ensures text_value { text_of text.new ≡ text_of text.old ++ word.now }
+    ensures len_value { array_vec_len text.new ≡ array_vec_len text.old + length word.now }
 {
-    let mut bytes = text.bytes;
-    let len = text.len;
-    let mut i: usize = 0;
-    while i < word.len() {
-        bytes[len + i] = word[i];
-        i += 1;
-    }
-    Text {
-        bytes: bytes,
-        len: len + i,
-    }
+    text.try_extend_from_slice(word).unwrap();
 }
 
 // A number behind a text.
-fn put_number(text: Text, number: u64) -> Text
-    requires { text.len + 20 ≤ 200 }
-    ensures result_value { text_of result ≡ text_of text ++ decimal number }
-    ensures len_bound { result.len ≤ text.len + 20 }
+#[tactic(auto, using(sheet_lines::proofs::Bytes::decimal_same, sheet_lines::proofs::Bytes::decimal_length))]
+fn put_number(text: &mut Text, number: u64)
+    requires { array_vec_len text.old + 20 ≤ 200 }
+    ensures text_value { text_of text.new ≡ text_of text.old ++ decimal number }
+    ensures len_bound { array_vec_len text.new ≤ array_vec_len text.old + 20 }
 {
-    let shown = sheet_words::decimal(number);
-    let bytes = shown.bytes;
-    let from = shown.from;
-    put(text, &bytes[from..])
+    let mut digits = itoa::Buffer::new();
+    put(text, digits.format(number).as_bytes());
 }
 
 // A field behind it, with its name, where it is not what is usual.
-fn put_field(text: Text, name: &[u8], value: u64, usual: u64) -> Text
-    requires { text.len + length name.now + 20 ≤ 200 }
-    ensures result_value { text_of result ≡ text_of text ++ field_text name.now value usual }
-    ensures len_bound { result.len ≤ text.len + length name.now + 20 }
+#[tactic(auto, using(basics::proofs::Tests::tests), unfolding(crate::specs::Form::field_text))]
+fn put_field(text: &mut Text, name: &[u8], value: u64, usual: u64)
+    requires { array_vec_len text.old + length name.now + 20 ≤ 200 }
+    ensures text_value { text_of text.new ≡ text_of text.old ++ field_text name.now value usual }
+    ensures len_bound { array_vec_len text.new ≤ array_vec_len text.old + length name.now + 20 }
 {
-    if value == usual {
-        return text;
+    if value != usual {
+        put(text, name);
+        put_number(text, value);
     }
-    put_number(put(text, name), value)
 }
 
 // The word of a call, with what stands before its number.
-fn put_word(code: u8, allow: bool) -> Text
-    ensures result_value { text_of result ≡ word_text allow code }
-    ensures len_bound { result.len ≤ 12 }
+#[tactic(auto, using(basics::proofs::Tests::tests), unfolding(crate::specs::Form::word_text, sheet_lines::specs::Text::bytes_of))]
+fn word_of(code: u8, allow: bool) -> &'static [u8]
+    ensures value { result.now ≡ word_text allow code }
+    ensures bound { length result.now ≤ 12 }
 {
-    let text = Text {
-        bytes: [0; 200],
-        len: 0,
-    };
-    if code == 1 {
-        return put(text, b"new ");
+    match code {
+        1 => b"new ",
+        2 => b"access",
+        3 => b"publish",
+        4 => b"abort",
+        5 => b"lookup",
+        6 => b"remove slot=",
+        7 if allow => b"pin slot=",
+        7 => b"unpin slot=",
+        8 => b"resize ",
+        _ => b"reclaim ",
     }
-    if code == 2 {
-        return put(text, b"access");
-    }
-    if code == 3 {
-        return put(text, b"publish");
-    }
-    if code == 4 {
-        return put(text, b"abort");
-    }
-    if code == 5 {
-        return put(text, b"lookup");
-    }
-    if code == 6 {
-        return put(text, b"remove slot=");
-    }
-    if code == 7 {
-        if allow {
-            return put(text, b"pin slot=");
-        }
-        return put(text, b"unpin slot=");
-    }
-    if code == 8 {
-        return put(text, b"resize ");
-    }
-    put(text, b"reclaim ")
 }
 
 // It with its number, where the call uses one.
-fn put_call(call: Record) -> Text
-    ensures result_value { text_of result ≡ call_text call }
-    ensures len_bound { result.len ≤ 60 }
+#[tactic(auto, using(basics::proofs::Tests::tests), unfolding(crate::specs::Form::call_text))]
+fn put_call(text: &mut Text, call: Record)
+    requires { array_vec_len text.old ≤ 0 }
+    ensures text_value { text_of text.new ≡ call_text call }
+    ensures len_bound { array_vec_len text.new ≤ 60 }
 {
-    let word = put_word(call.code, call.allow);
+    put(text, word_of(call.code, call.allow));
     if uses_number(call.code) {
-        return put_number(word, call.number as u64);
+        put_number(text, call.number as u64);
     }
-    word
 }
 
 // The front of a line that tells every field.
-fn put_record(call: Record) -> Text
-    ensures result_value { text_of result ≡ record_text call }
-    ensures len_bound { result.len ≤ 60 }
+#[tactic(auto, unfolding(crate::specs::Form::record_text, sheet_lines::specs::Text::bytes_of))]
+fn put_record(text: &mut Text, call: Record)
+    requires { array_vec_len text.old ≤ 0 }
+    ensures text_value { text_of text.new ≡ record_text call }
+    ensures len_bound { array_vec_len text.new ≤ 60 }
 {
-    let text = Text {
-        bytes: [0; 200],
-        len: 0,
-    };
-    let code = put_number(put(text, b"record code="), call.code as u64);
-    put_field(code, b" number=", call.number as u64, 0)
+    put(text, b"record code=");
+    put_number(text, u64::from(call.code));
+    put_field(text, b" number=", call.number as u64, 0);
 }
 
 // The front of a line: the fields behind it are told by their names.
-fn put_head(call: Record) -> Text
-    ensures result_value { text_of result ≡ head_text call }
-    ensures len_bound { result.len ≤ 60 }
+#[tactic(auto, using(basics::proofs::Tests::tests), unfolding(crate::specs::Form::head_text))]
+fn put_head(text: &mut Text, call: Record)
+    requires { array_vec_len text.old ≤ 0 }
+    ensures text_value { text_of text.new ≡ head_text call }
+    ensures len_bound { array_vec_len text.new ≤ 60 }
 {
     if only_used(call) {
-        return put_call(call);
+        put_call(text, call);
+    } else {
+        put_record(text, call);
     }
-    put_record(call)
 }
 
 // What allow is where the line does not say it: 1 for an access, and the word says it of a pin.
+#[tactic(auto, using(basics::proofs::Tests::tests), unfolding(crate::specs::Form::usual_allow))]
 fn usual_allow(call: Record) -> bool
     ensures { result ≡ usual_allow call }
 {
-    if !only_used(call) {
-        return false;
-    }
-    if call.code == 2 {
-        return true;
-    }
-    if call.code == 7 {
-        return call.allow;
-    }
-    false
+    only_used(call) && (call.code == 2 || call.code == 7 && call.allow)
 }
 
 // The line of a record, with its end.
+#[tactic(auto, unfolding(crate::specs::Form::shown, sheet_lines::specs::Text::bytes_of))]
 pub fn show_record(call: Record) -> Text
     ensures result_value { text_of result ≡ shown call }
-    ensures len_bound { result.len ≤ 200 }
+    ensures len_bound { array_vec_len result ≤ 200 }
 {
-    let word = put_head(call);
-    let file = put_field(word, b" file=", call.key.file, 0);
-    let kind = put_field(file, b" kind=", call.key.kind as u64, 0);
-    let index = put_field(kind, b" index=", call.key.index, 0);
+    let mut text = ArrayVec::new();
+    put_head(&mut text, call);
+    put_field(&mut text, b" file=", call.key.file, 0);
+    put_field(&mut text, b" kind=", u64::from(call.key.kind), 0);
+    put_field(&mut text, b" index=", call.key.index, 0);
     let usual = usual_allow(call);
-    let allow = put_field(index, b" allow=", bit(call.allow) as u64, bit(usual) as u64);
-    let place = put_field(allow, b" place=", call.place as u64, 0);
-    put(place, b"\n")
+    put_field(
+        &mut text,
+        b" allow=",
+        u64::from(call.allow),
+        u64::from(usual),
+    );
+    put_field(&mut text, b" place=", call.place as u64, 0);
+    text.push(b'\n');
+    text
 }

@@ -1,6 +1,6 @@
 -- SPDX-License-Identifier: Apache-2.0
 -- What the steps share: the pin bytes that are lent, the pins as they move, and the cases of a record. Assumes nothing.
-use Rattle.std.proofs.Common.{if◌then◌else◌}
+use Rattle.std.proofs.Common.{Option, Some, None, if◌then◌else◌}
 use Prim.Native.Nat.{ℕ, zero, suc, ◌+◌, ◌-◌, ◌≤◌, ◌<◌, min}
 use native.Mathlib.Omega.{arith}
 use mathlib.Core.Path.{◌≡◌, refl, sym, ◌∙◌, ap}
@@ -33,7 +33,6 @@ use Rattle.maintenance_reclaim.specs.Reclaim.{reclaim}
 use Rattle.maintenance_resize.specs.declared.Maintained.{Maintained}
 use Rattle.maintenance_resize.specs.Answers.{Resizing, size_answer, maintained_after}
 use Rattle.maintenance_resize.specs.Resize.{resize}
-use Rattle.sheet_lines.specs.declared.Read.{Read}
 use Rattle.sheet_lines.specs.declared.Record.{Record}
 use Rattle.sheet_lines.specs.declared.Said.{Said}
 use Rattle.sheet_lines.specs.Record.{read_record, place_of}
@@ -183,11 +182,11 @@ module _ (s : Standing) (r : Record) where
   reclaim_made b n p m e word = rw (← lent_pins_lem s n p m, ← e) (sym (word (with_state s b.state)))
 
 -- a record's step, by what was read
-pub step_bad : (s : Standing) (bytes : List ℕ) {x : Read} → x ≡ read_record bytes → x ≡ Read.Bad → step s bytes ≡ says s Said.Bad
+pub step_bad : (s : Standing) (bytes : List ℕ) {x : Option Record} → x ≡ read_record bytes → x ≡ None → step s bytes ≡ says s Said.Bad
 unfolding step step_record
 step_bad s bytes a b = rw (← a, b)
 
-module _ (s : Standing) (bytes : List ℕ) (r : Record) {x : Read} (a : x ≡ read_record bytes) (b : x ≡ Read.Whole r) where
+module _ (s : Standing) (bytes : List ℕ) (r : Record) {x : Option Record} (a : x ≡ read_record bytes) (b : x ≡ Some r) where
   pub step_new_lem : r.code ≡ 1 → step s bytes ≡ step_new s r
   unfolding step step_record
   step_new_lem e = rw (← a, b, eq-eqb _ _ e)
@@ -205,5 +204,5 @@ module _ (s : Standing) (bytes : List ℕ) (r : Record) {x : Read} (a : x ≡ re
   step_rest n t n2 n3 n4 n5 n6 n7 n8 = rw (← a, b, ne_eqb _ _ n, t, ne_eqb _ _ n2, ne_eqb _ _ n3, ne_eqb _ _ n4, ne_eqb _ _ n5, ne_eqb _ _ n6, ne_eqb _ _ n7, ne_eqb _ _ n8)
 
 -- the token place of a record that was read
-pub place_told : (r : Record) {x : Read} → x ≡ Read.Whole r → place_of x < 16 → r.place < 16
+pub place_told : (r : Record) {x : Option Record} → x ≡ Some r → place_of x < 16 → r.place < 16
 place_told r e h = rw e at h

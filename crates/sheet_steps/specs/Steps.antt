@@ -1,6 +1,6 @@
 -- SPDX-License-Identifier: Apache-2.0
 -- "Codes: 1 new, 2 access, 3 publish, 4 abort, 5 lookup, 6 remove slot, 7 set pin of a clean slot, 8 resize, 9 reclaim"
-use Rattle.std.specs.Prelude.{ℕ, zero, suc, ◌+◌, Bool, true, not, List, eqb, length, get_or, set, if◌then◌else◌}
+use Rattle.std.specs.Prelude.{Option as Maybe, Some, None, ℕ, zero, suc, ◌+◌, Bool, true, not, List, eqb, length, get_or, set, if◌then◌else◌}
 use Rattle.std.proofs.Math.Option.{Option, none, some}
 use Rattle.basics.specs.Try.{Try, ok, refuse}
 use Rattle.basics.specs.Refusals.{STALE}
@@ -20,7 +20,6 @@ use Rattle.maintenance_reclaim.specs.Reclaim.{reclaim}
 use Rattle.maintenance_resize.specs.Answers.{Size, unchanged, busy_now, resized, Resizing}
 use Rattle.maintenance_resize.specs.Resize.{resize}
 use Rattle.sheet_lines.specs.declared.Record.{Record}
-use Rattle.sheet_lines.specs.declared.Read.{Read}
 use Rattle.sheet_standing.specs.declared.Standing.{Standing}
 use Rattle.sheet_lines.specs.declared.Said.{Said}
 use Rattle.sheet_steps.specs.declared.Stepped.{Stepped}
@@ -138,9 +137,9 @@ step_code s r code =
     step_reclaim s r
 
 -- "a record before a 1 prints its number and `bad`"; a refused 1 "does not count as a 1"
-unfoldable pub step_record : Standing → Read → Stepped
-step_record s Read.Bad = says s Said.Bad
-step_record s (Read.Whole r) =
+unfoldable pub step_record : Standing → Maybe Record → Stepped
+step_record s None = says s Said.Bad
+step_record s (Some r) =
     if eqb r.code 1 then step_new s r else
     if not s.stands then says s Said.Bad else
     step_code s r r.code

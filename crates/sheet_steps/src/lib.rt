@@ -12,7 +12,7 @@ ghost use Rattle.sheet_steps.specs.Steps.{clean_answer, say_access, say_done, sa
 
 use basics::Done;
 use maintenance_resize::Maintenance;
-use sheet_lines::{Read, Said};
+use sheet_lines::Said;
 use sheet_standing::{Place, Standing};
 use state::{Access, Found, State};
 
@@ -229,7 +229,7 @@ pub fn step(s: Standing, bytes: &[u8]) -> Stepped
     ensures { result ≡ step_rule s bytes.now }
 {
     let read = sheet_lines::read_record(bytes);
-    let Read::Whole(asked) = read else {
+    let Some(asked) = read else {
         return Stepped {
             standing: s,
             said: Said::Bad,

@@ -9,124 +9,81 @@ ghost use Rattle.sheet_lines.specs.Words.{word_of, number_of, tail_of, line_of, 
 use sheet_lines::{Line, Said, is_bad};
 
 // A byte in front of a line.
-fn front(line: Line, byte: u8) -> Line
+fn front(mut line: Line, byte: u8) -> Line
     requires { (0 < line.from) × (line.from ≤ 96) }
     ensures result_value { text_of result ≡ byte ∷ text_of line }
     ensures from_value { result.from + 1 ≡ line.from }
 {
-    let mut bytes = line.bytes;
-    let at = line.from - 1;
-    bytes[at] = byte;
-    Line {
-        bytes: bytes,
-        from: at,
-    }
+    line.from -= 1;
+    line.bytes[line.from] = byte;
+    line
 }
 
 // A number in front of it, in decimal.
-fn digits(line: Line, number: u64) -> Line
+#[tactic(auto, using(sheet_lines::proofs::Bytes::decimal_same, sheet_lines::proofs::Bytes::decimal_length))]
+fn digits(mut line: Line, number: u64) -> Line
     requires { (20 ≤ line.from) × (line.from ≤ 96) }
     ensures result_value { text_of result ≡ decimal number ++ text_of line }
     ensures from_bound { (line.from ≤ result.from + 20) × (result.from ≤ line.from) }
 {
-    let mut bytes = line.bytes;
-    let mut from = line.from;
-    let mut n = number;
-    let mut left: usize = 20;
-    while 0 < left {
-        from -= 1;
-        if n < 10 {
-            bytes[from] = 48 + n as u8;
-            return Line {
-                bytes: bytes,
-                from: from,
-            };
-        }
-        bytes[from] = 48 + (n % 10) as u8;
-        n = n / 10;
-        left -= 1;
-    }
-    Line {
-        bytes: bytes,
-        from: from,
-    }
-}
-
-// A number by itself.
-pub fn decimal(number: u64) -> Line
-    ensures result_value { text_of result ≡ decimal number }
-    ensures bound { (96 ≤ result.from + 20) × (result.from ≤ 96) × (length result.bytes ≡ 96) }
-{
-    let blank = Line {
-        bytes: [0; 96],
-        from: 96,
-    };
-    digits(blank, number)
+    let to = line.from;
+    line.from = itoa::write_digits(number, &mut line.bytes, to);
+    line
 }
 
 // Some bytes in front of it.
-fn put(line: Line, text: &[u8]) -> Line
+fn put(mut line: Line, text: &[u8]) -> Line
     requires { (length text.now ≤ line.from) × (line.from ≤ 96) }
     ensures result_value { text_of result ≡ text.now ++ text_of line }
     ensures text_value { result.from + length text.now ≡ line.from }
 {
-    let mut bytes = line.bytes;
-    let mut from = line.from;
-    let mut left = text.len();
-    while 0 < left {
-        from -= 1;
-        left -= 1;
-        bytes[from] = text[left];
-    }
-    Line {
-        bytes: bytes,
-        from: from,
-    }
+    let to = line.from;
+    let from = to - text.len();
+    line.bytes[from..to].copy_from_slice(text);
+    line.from = from;
+    line
 }
 
-// The word in front of it.
-fn put_word(line: Line, said: Said) -> Line
-    requires { (9 ≤ line.from) × (line.from ≤ 96) }
-    ensures result_value { text_of result ≡ word_of said ++ text_of line }
-    ensures from_bound { (line.from ≤ result.from + 9) × (result.from ≤ line.from) }
+// The word of a line.
+#[tactic(auto, unfolding(sheet_lines::specs::Text::bytes_of))]
+fn word_of(said: Said) -> &'static [u8]
+    ensures value { result.now ≡ word_of said }
+    ensures bound { length result.now ≤ 9 }
 {
     match said {
-        Said::Made(_) => put(line, b"made"),
-        Said::Hit(_) => put(line, b"hit"),
-        Said::Loading => put(line, b"loading"),
-        Said::Reserved(_) => put(line, b"reserved"),
-        Said::Evicted(_) => put(line, b"evicted"),
-        Said::Busy => put(line, b"busy"),
-        Said::Done => put(line, b"done"),
-        Said::Nothing => put(line, b"none"),
-        Said::Unchanged => put(line, b"unchanged"),
-        Said::Resized(_) => put(line, b"resized"),
-        Said::Reclaimed(_) => put(line, b"reclaimed"),
-        Said::Refused(_) => put(line, b"refused"),
-        Said::Bad => put(line, b"bad"),
+        Said::Made(_) => b"made",
+        Said::Hit(_) => b"hit",
+        Said::Loading => b"loading",
+        Said::Reserved(_) => b"reserved",
+        Said::Evicted(_) => b"evicted",
+        Said::Busy => b"busy",
+        Said::Done => b"done",
+        Said::Nothing => b"none",
+        Said::Unchanged => b"unchanged",
+        Said::Resized(_) => b"resized",
+        Said::Reclaimed(_) => b"reclaimed",
+        Said::Refused(_) => b"refused",
+        Said::Bad => b"bad",
     }
 }
 
-// Its number, or `-`, in front of it.
+// The word's number, or `-`, in front of a line.
 fn put_number(line: Line, said: Said) -> Line
     requires { (20 ≤ line.from) × (line.from ≤ 96) }
     ensures result_value { text_of result ≡ number_of said ++ text_of line }
     ensures from_bound { (line.from ≤ result.from + 20) × (result.from ≤ line.from) }
 {
     match said {
-        Said::Made(capacity) => digits(line, capacity as u64),
-        Said::Hit(slot) => digits(line, slot as u64),
-        Said::Loading => front(line, b'-'),
-        Said::Reserved(slot) => digits(line, slot as u64),
-        Said::Evicted(slot) => digits(line, slot as u64),
-        Said::Busy => front(line, b'-'),
-        Said::Done => front(line, b'-'),
-        Said::Nothing => front(line, b'-'),
-        Said::Unchanged => front(line, b'-'),
-        Said::Resized(capacity) => digits(line, capacity as u64),
-        Said::Reclaimed(count) => digits(line, count as u64),
-        Said::Refused(why) => digits(line, why as u64),
-        Said::Bad => front(line, b'-'),
+        Said::Made(number)
+        | Said::Hit(number)
+        | Said::Reserved(number)
+        | Said::Evicted(number)
+        | Said::Resized(number)
+        | Said::Reclaimed(number) => digits(line, number as u64),
+        Said::Refused(why) => digits(line, u64::from(why)),
+        Said::Loading | Said::Busy | Said::Done | Said::Nothing | Said::Unchanged | Said::Bad => {
+            front(line, b'-')
+        }
     }
 }
 
@@ -155,6 +112,6 @@ pub fn line_of(number: u64, said: Said, clean: usize, loading: usize) -> Line
     ensures from_bound { result.from ≤ 96 }
 {
     let tail = tail_of(said, clean, loading);
-    let second = put_word(tail, said);
+    let second = put(tail, word_of(said));
     digits(front(second, b' '), number)
 }

@@ -9,7 +9,6 @@ ghost use Rattle.std.specs.Prelude.{◌≡◌, ◌+◌, ◌/◌, ◌≤◌, ◌+
 ghost use Rattle.sheet_show.specs.Form.{listed_text, text_of};
 
 use check::same;
-use sheet_lines::Read;
 use sheet_show::Text;
 use sheet_text::{Fault, Parsed};
 use std::env::FillError;
@@ -210,7 +209,7 @@ fn text_of(bytes: &[u8], out: &mut [u8]) -> Listed
                 bad: false,
             };
         }
-        let Read::Whole(call) = sheet_lines::read_record(&bytes[at..]) else {
+        let Some(call) = sheet_lines::read_record(&bytes[at..]) else {
             return Listed {
                 written: written,
                 records: records,

@@ -21,18 +21,18 @@ pub returns-in-Refused : goal.returns-in-Refused
 returns-in-Refused c =
     new_refused _ _ _ c.try_new-made.ensures c.in-Refused.is
     ∙ sym (step_new_lem _ _ _ c.read_record-read.ensures.value
-    c.in-Whole.is c.if-code-eq1.true)
+    c.in-Some.is c.if-code-eq1.true)
 
 pub returns-then-code-eq1 : goal.returns-then-code-eq1
 returns-then-code-eq1 c =
     new_made _ _ c.try_new-made.ensures c.in_default-answer.is c.afresh.ensures
     ∙ sym (step_new_lem _ _ _ c.read_record-read.ensures.value
-    c.in-Whole.is c.if-code-eq1.true)
+    c.in-Some.is c.if-code-eq1.true)
 
 pub returns-then-not-s : goal.returns-then-not-s
 returns-then-not-s c =
     sym (step_before _ _ _ c.read_record-read.ensures.value
-    c.in-Whole.is c.if-code-eq1.false c.if-not-s.true)
+    c.in-Some.is c.if-code-eq1.false c.if-not-s.true)
 
 pub returns-then-code-eq2 : goal.returns-then-code-eq2
 unfolding step_code
@@ -42,7 +42,7 @@ returns-then-code-eq2 c =
     pins c.lent-count.ensures
     c.access-accessed.ensures c.hold-held.ensures c.access_word.ensures
     ∙ sym (step_code_lem _ _ _ c.read_record-read.ensures.value
-    c.in-Whole.is
+    c.in-Some.is
     c.if-code-eq1.false
     c.if-not-s.false
     ∙ ap (step_code _ _) c.if-code-eq2.true)
@@ -53,7 +53,7 @@ returns-then-not-held c =
     publish_empty _ _ (not-true _ c.if-not-held.true)
     ∙ sym (step_code_lem _ _ _
     c.read_record-read.ensures.value
-    c.in-Whole.is
+    c.in-Some.is
     c.if-code-eq1.false
     c.if-not-s.false
     ∙ ap (step_code _ _) c.if-code-eq3.true)
@@ -64,7 +64,7 @@ returns-then-code-eq3 c =
     publish_made _ _ c.publish-published.result (not-false _ c.if-not-held.false)
     c.publish-published.ensures c.done_word.ensures
     ∙ sym (step_code_lem _ _ _ c.read_record-read.ensures.value
-    c.in-Whole.is
+    c.in-Some.is
     c.if-code-eq1.false
     c.if-not-s.false
     ∙ ap (step_code _ _) c.if-code-eq3.true)
@@ -74,7 +74,7 @@ unfolding step_code
 returns-then-not-shown c =
     abort_empty _ _ (not-true _ c.if-not-shown.true)
     ∙ sym (step_code_lem _ _ _ c.read_record-read.ensures.value
-    c.in-Whole.is
+    c.in-Some.is
     c.if-code-eq1.false
     c.if-not-s.false
     ∙ ap (step_code _ _) c.if-code-eq4.true)
@@ -85,7 +85,7 @@ returns-then-code-eq4 c =
     abort_made _ _ c.abort-aborted.result (not-false _ c.if-not-shown.false)
     c.abort-aborted.ensures c.done_word-then-code-eq4.ensures
     ∙ sym (step_code_lem _ _ _ c.read_record-read.ensures.value
-    c.in-Whole.is
+    c.in-Some.is
     c.if-code-eq1.false
     c.if-not-s.false
     ∙ ap (step_code _ _) c.if-code-eq4.true)
@@ -95,7 +95,7 @@ unfolding step_code
 returns-then-code-eq5 c =
     lookup_made _ _ c.lookup-looked.result c.lookup-looked.ensures c.found_word.ensures
     ∙ sym (step_code_lem _ _ _ c.read_record-read.ensures.value
-    c.in-Whole.is
+    c.in-Some.is
     c.if-code-eq1.false
     c.if-not-s.false
     ∙ ap (step_code _ _) c.if-code-eq5.true)
@@ -106,7 +106,7 @@ returns-then-code-eq6 c =
     remove_made _ _ c.remove_clean-removed.result c.remove_clean-removed.ensures
     c.after_remove-pinned.ensures
     ∙ sym (step_code_lem _ _ _ c.read_record-read.ensures.value
-    c.in-Whole.is
+    c.in-Some.is
     c.if-code-eq1.false
     c.if-not-s.false
     ∙ ap (step_code _ _) c.if-code-eq6.true)
@@ -116,7 +116,7 @@ unfolding step_code
 returns-in-Refused-clean c =
     pin_refused _ _ _ c.check_clean-clean.ensures c.in-Refused-clean.is
     ∙ sym (step_code_lem _ _ _ c.read_record-read.ensures.value
-    c.in-Whole.is
+    c.in-Some.is
     c.if-code-eq1.false
     c.if-not-s.false
     ∙ ap (step_code _ _) c.if-code-eq7.true)
@@ -127,7 +127,7 @@ returns-then-code-eq7 c =
     pin_made _ _ c.check_clean-clean.ensures c.in_default-clean.is
     c.pin_byte.ensures c.pin_to.ensures
     ∙ sym (step_code_lem _ _ _ c.read_record-read.ensures.value
-    c.in-Whole.is
+    c.in-Some.is
     c.if-code-eq1.false
     c.if-not-s.false
     ∙ ap (step_code _ _) c.if-code-eq7.true)
@@ -142,7 +142,7 @@ returns-then-code-eq8 c =
     pins c.lent-count-2.ensures
     c.resize-maintained.ensures list
     c.after_resize-pinned.ensures
-    ∙ sym (step_code_lem _ _ _ c.read_record-read.ensures.value c.in-Whole.is
+    ∙ sym (step_code_lem _ _ _ c.read_record-read.ensures.value c.in-Some.is
     c.if-code-eq1.false
     c.if-not-s.false
     ∙ ap (step_code _ _) c.if-code-eq8.true)
@@ -154,7 +154,7 @@ returns c =
     pins
     c.lent-count-2.ensures c.reclaim-batch.ensures c.count_word.ensures
     ∙ sym (step_rest _ _ _ c.read_record-read.ensures.value
-    c.in-Whole.is
+    c.in-Some.is
     c.if-code-eq1.false
     c.if-not-s.false
     c.if-code-eq2.false

@@ -11,7 +11,8 @@ returns c = record {
   result_value = rw (
     c.digits.ensures.result_value,
     c.front.ensures.result_value,
-    c.put_word-second.ensures.result_value,
+    c.put-second.ensures.result_value,
+    c.word_of.ensures.value,
     c.tail_of-tail.ensures.result_value,
   ) (simp append_assoc);
   from_bound = omega arith;
