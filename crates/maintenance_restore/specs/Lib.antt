@@ -1,4 +1,4 @@
 -- SPDX-License-Identifier: Apache-2.0
 pub mod Pins
 pub mod Restore
-pub mod Parts
+pub mod Answers

@@ -7,63 +7,49 @@ ghost use Rattle.std.specs.Prelude.{◌≡◌, ◌≤◌, max, length};
 ghost use Rattle.basics.specs.Numbers.{power_over};
 ghost use Rattle.maintenance_restore.specs.Pins.{pin_count, pins_clean, raised as raised_to};
 
-use key::Count;
 use state::State;
 
 // How many slots are pinned.
+#[tactic(auto, using(crate::proofs::Cases::pinned))]
 fn pin_count(pins: &[u8]) -> usize
     ensures value { result ≡ pin_count pins.now }
     ensures upper_bound { result ≤ length pins.now }
 {
-    let mut n: usize = 0;
-    let mut i: usize = 0;
-    while i < pins.len() {
-        if pins[i] != 0 {
-            n += 1;
-        }
-        i += 1;
-    }
-    n
+    pins.iter().filter(|p| **p != 0).count()
 }
 
-// The least power of two not below n, and not below 1: half of the bucket count of the capacity n.
+// The least power of two not below n, and not below 1: half of the bucket count of the capacity n (std has no `next_power_of_two`).
+#[tactic(auto, using(crate::proofs::Cases::power_one, crate::proofs::Cases::power_half))]
 fn power_over(n: usize) -> usize
     requires { n ≤ 256 }
     ensures value { result ≡ power_over (max n 1) }
     ensures upper_bound { result ≤ 256 }
 {
-    let counted = key::bucket_count(n);
-    let Count::Of(buckets) = counted else {
-        return 1;
-    };
-    buckets / 2
+    match key::bucket_count(n) {
+        Ok(buckets) => buckets / 2,
+        Err(_) => 1,
+    }
 }
 
 // The asked capacity, raised to what the pinned slots need.
+#[tactic(auto, unfolding(crate::specs::Pins::raised))]
 pub fn raised(asked: usize, pins: &[u8]) -> usize
     requires { (asked ≤ 256) × (length pins.now ≤ 256) }
     ensures value { result ≡ raised_to asked pins.now }
     ensures lower_bound { (asked ≤ result) × (result ≤ 256) }
 {
-    let pinned = pin_count(pins);
-    let least = power_over(pinned);
-    if asked < least { least } else { asked }
+    asked.max(power_over(pin_count(pins)))
 }
 
 // Whether every pinned slot is clean.
-pub fn pins_clean(t: State, pins: &[u8]) -> bool
-    requires { (t.capacity ≤ 256) × (length pins.now ≡ t.capacity) }
-    ensures { result ≡ pins_clean t.capacity t pins.now 0 }
+#[tactic(auto, using(crate::proofs::Cases::clean_free, crate::proofs::Cases::clean_kept, crate::proofs::Cases::clean_lost, crate::proofs::Cases::clean_end))]
+pub fn pins_clean(t: &State, pins: &[u8]) -> bool
+    requires { (t.now.capacity ≤ 256) × (length pins.now ≡ t.now.capacity) }
+    ensures { result ≡ pins_clean t.now.capacity t.now pins.now 0 }
 {
-    let mut slot: usize = 0;
-    while slot < t.capacity {
-        let at = slot;
-        slot += 1;
-        if pins[at] != 0 {
-            let entry = t.slots[at];
-            if entry.kind != state::CLEAN {
-                return false;
-            }
+    for slot in 0..t.capacity {
+        if pins[slot] != 0 && t.slots[slot].kind != state::CLEAN {
+            return false;
         }
     }
     true

@@ -1,12 +1,9 @@
 -- SPDX-License-Identifier: Apache-2.0
 -- `restore::candidate` meets its contract: what is left to do is from the size on, in the rounds left. Assumes nothing.
-use Prim.Native.Nat.{◌≤◌, ◌<◌}
+use Prim.Native.Nat.{◌-◌, ◌≤◌, ◌<◌}
 use mathlib.Core.Path.{◌≡◌}
 use Rattle.maintenance_restore.specs.Restore.{candidate}
 use Rattle.maintenance_restore.proofs.restore.candidate.Given as goal
 
-abbrev pub invariant-loop-left : goal.invariant-loop-left
-invariant-loop-left l = (candidate l.left l.old l.pins l.shrinking l.size ≡ candidate 9 l.old l.pins l.shrinking l.initial.size) × ((0 < l.size) × (l.size ≤ 256))
-
-abbrev pub decreases-loop-left : goal.decreases-loop-left
-decreases-loop-left l = l.left
+abbrev pub invariant-loop-round : goal.invariant-loop-round
+invariant-loop-round l = (candidate (9 - l.round) l.old l.pins l.shrinking l.size ≡ candidate 9 l.old l.pins l.shrinking l.initial.size) × ((0 < l.size) × (l.size ≤ 256))
