@@ -2,87 +2,145 @@
 // SPDX-License-Identifier: Apache-2.0
 // Ported from src/fs/cache/state/mod.rs of HypeR-Proj/kernel at 53afd06a1d, changed; see NOTICE.
 
-// state/mod.rs, what the searches of a key's chain share, and peek_clean. Lookup (`state_lookup`) and access (`state_access`) walk the chain themselves:
-// a function of its own would take the table by value, which copies it. Every function works on any table.
+// state/mod.rs, the searches of a key's chain: that of lookup and access with what it does to the table, and peek_clean. Every function works on
+// any table; a refusal leaves it as it was.
 #![tactic(auto)]
 
-ghost use Rattle.std.specs.Prelude.{◌≡◌};
-ghost use Rattle.eviction.specs.Answers.{moved_of as heap_moved_of};
+ghost use Rattle.std.specs.Prelude.{◌≡◌, ◌<◌, IfOk, IfSome, MatchResult};
+ghost use Rattle.basics.specs.Try.{ok, refuse};
+ghost use Rattle.basics.specs.Answers.{number, answer, found_answer};
 ghost use Rattle.state.specs.Slots.{occupied, clean_with};
-ghost use Rattle.state.specs.Answers.{found_answer};
-ghost use Rattle.state.specs.Find.{touch_next};
+ghost use Rattle.state.specs.Find.{find_key, touch_next, seek};
 ghost use Rattle.state.specs.Reads.{peek_clean};
+ghost use Rattle.state_search.specs.Sought.{seen_of};
 
-use basics::Done;
+use basics::{NO_SLOT, Refusal};
 use eviction::EvictionHeap;
+use index_chains::MAX_CHAIN;
 use key::CacheKey;
-use state::{Found, Slot, State};
+use state::{CLEAN, LOADING, Slot, State};
+
+// What a search for a key saw.
+#[derive(Clone, Copy)]
+pub enum Seen {
+    Hit(usize),
+    Loading,
+    Absent,
+}
 
 // Whether the slot holds a key: the Rust's `Slot::key` gives one.
-pub fn holds_key(slot: Slot) -> bool
+#[tactic(auto, using(basics::proofs::Tests::tests), unfolding(state::specs::Slots::occupied))]
+fn holds_key(slot: Slot) -> bool
     ensures { result ≡ occupied slot }
 {
-    if slot.kind == state::LOADING {
-        return true;
-    }
-    slot.kind == state::CLEAN
+    slot.kind == LOADING || slot.kind == CLEAN
 }
 
 // Whether the slot is clean with the key.
+#[tactic(auto, using(basics::proofs::Tests::tests), unfolding(state::specs::Slots::clean_with))]
 fn clean_with(slot: Slot, key: CacheKey) -> bool
     ensures { result ≡ clean_with slot key }
 {
-    if slot.kind != state::CLEAN {
-        return false;
-    }
-    let held = slot.key;
-    held.same(key)
+    slot.kind == CLEAN && slot.key.same(key)
 }
 
 // The next use number is taken and the slot touched, on the heap alone.
-pub fn touch_next(capacity: usize, heap: EvictionHeap, slot: usize, last: u64) -> eviction::Moved
-    ensures { result ≡ heap_moved_of heap (touch_next capacity heap slot last) }
+#[tactic(auto, using(basics::proofs::Tests::tests), unfolding(state::specs::Find::touch_next))]
+fn touch_next(
+    capacity: usize,
+    heap: EvictionHeap,
+    slot: usize,
+    last: u64,
+) -> Result<EvictionHeap, Refusal>
+    ensures { answer result ≡ touch_next capacity heap slot last }
 {
-    if last == basics::MAX {
-        return eviction::Moved {
-            heap: heap,
-            answer: Done::Refused(basics::EXHAUSTED),
-        };
+    let next = last.checked_add(1).ok_or(Refusal::SequenceExhausted)?;
+    eviction_sift::touch(heap, capacity, slot, next)
+}
+
+// The slot of the key's chain that holds the key; a vacant one on the way is a stop.
+#[tactic(auto, using(basics::proofs::Tests::tests, crate::proofs::Cases::find_step, crate::proofs::Cases::find_end), unfolding(state::specs::Find::find_key))]
+fn find(t: &State, key: CacheKey) -> Result<Option<usize>, Refusal>
+    ensures slot { found_answer result ≡ find_key t.now key }
+    ensures inside { IfOk result (λ found. IfSome found (λ slot. slot < 256)) }
+{
+    t.check_sound()?;
+    let mut slot = t.index.head(key);
+    for _ in 0..MAX_CHAIN {
+        if slot == NO_SLOT {
+            return Ok(None);
+        }
+        if t.capacity <= slot || !holds_key(t.slots[slot]) {
+            return Err(Refusal::Stop);
+        }
+        if t.slots[slot].key.same(key) {
+            return Ok(Some(slot));
+        }
+        slot = t.index.next_in_chain(slot);
     }
-    eviction_sift::touch(heap, capacity, slot, last + 1)
+    if slot == NO_SLOT {
+        Ok(None)
+    } else {
+        Err(Refusal::Stop)
+    }
+}
+
+// What lookup and access do first: a clean key's slot is touched and a hit counted, a loading key is counted.
+#[tactic(auto, using(basics::proofs::Tests::tests), unfolding(state::specs::Find::seek, state::specs::Find::seek_at, state::specs::Find::hit_at, state::specs::Find::touch_next))]
+pub fn seek(t: &mut State, key: CacheKey) -> Result<Seen, Refusal>
+    ensures seen { MatchResult result (λ seen. seek t.old key ≡ ok (record { table = t.new; seen = seen_of seen }))
+        (λ why. (seek t.old key ≡ refuse (number why)) × (t.new ≡ t.old)) }
+    ensures absent { IfOk result (λ seen. seen ≡ Seen.Absent → t.new ≡ t.old) }
+{
+    let Some(slot) = find(t, key)? else {
+        return Ok(Seen::Absent);
+    };
+    if t.slots[slot].kind != CLEAN {
+        t.counters.in_progress = basics::one_more(t.counters.in_progress);
+        return Ok(Seen::Loading);
+    }
+    let last = t.next_access_sequence;
+    t.eviction = touch_next(t.capacity, t.eviction, slot, last)?;
+    t.next_access_sequence = last + 1;
+    t.slots[slot] = Slot {
+        kind: CLEAN,
+        key,
+        generation: 0,
+        last_access: last + 1,
+    };
+    t.counters.hits = basics::one_more(t.counters.hits);
+    Ok(Seen::Hit(slot))
 }
 
 // The slot of the key's chain that is clean with the key; a loading one is passed.
-pub fn peek_clean(t: State, key: CacheKey) -> Found
-    ensures { found_answer result ≡ peek_clean t key }
+#[tactic(auto, using(basics::proofs::Tests::tests, crate::proofs::Cases::peek_step, crate::proofs::Cases::peek_end), unfolding(state::specs::Reads::peek_clean))]
+pub fn peek(t: &State, key: CacheKey) -> Result<Option<usize>, Refusal>
+    ensures { found_answer result ≡ peek_clean t.now key }
 {
-    if !state::sound(
-        t.capacity,
-        t.index.buckets,
-        t.index.free_len,
-        t.eviction.len,
-    ) {
-        return Found::Refused(basics::STOP);
-    }
-    let mut at = index::head(&t.index.heads, t.index.buckets, key);
-    let mut left: usize = index_chains::MAX_CHAIN;
-    while 0 < left {
-        if at == basics::NO_SLOT {
-            return Found::Nothing;
+    t.check_sound()?;
+    let mut at = t.index.head(key);
+    for _ in 0..MAX_CHAIN {
+        if at == NO_SLOT {
+            return Ok(None);
         }
         if t.capacity <= at {
-            return Found::Refused(basics::STOP);
+            return Err(Refusal::Stop);
         }
-        let entry = t.slots[at];
-        if clean_with(entry, key) {
-            return Found::At(at);
+        if clean_with(t.slots[at], key) {
+            return Ok(Some(at));
         }
-        at = index::next_in_chain(&t.index.next, at);
-        left -= 1;
+        at = t.index.next_in_chain(at);
     }
-    if at == basics::NO_SLOT {
-        Found::Nothing
+    if at == NO_SLOT {
+        Ok(None)
     } else {
-        Found::Refused(basics::STOP)
+        Err(Refusal::Stop)
     }
+}
+
+// `peek` as the table's call, which takes it by value.
+pub fn peek_clean(t: State, key: CacheKey) -> Result<Option<usize>, Refusal>
+    ensures { found_answer result ≡ peek_clean t key }
+{
+    peek(&t, key)
 }
