@@ -1,48 +1,20 @@
 -- SPDX-License-Identifier: Apache-2.0
--- What the proofs of the removals share: the ends of `detach_counted`, and that remove and detach are it. Assumes nothing.
-use Prim.Native.Nat.{ℕ, ◌-◌, ◌<◌}
+-- What the proofs of the removals share: that remove and detach are `detach_counted`. Assumes nothing.
+use Prim.Native.Nat.{ℕ}
 use mathlib.Core.Path.{◌≡◌, refl, sym, ap}
-use mathlib.Core.Bool.{true}
 use lib.Dec.{ltb, eqb}
-use borrow.Author.Tests.{lt-ltb, eq-eqb}
 use Rattle.basics.specs.Try.{Try, ok, refuse, ◌>>=◌, ◌>>◌}
 use Rattle.basics.specs.Refusals.{STOP}
 use Rattle.basics.specs.Answers.{Fine, done}
-use Rattle.basics.proofs.Tests.{no_ltb, some_ltb, met, went, ok_same, bind_same}
-use Rattle.index.specs.declared.Index.{Index}
+use Rattle.basics.proofs.Tests.{met, went, ok_same, bind_same}
 use Rattle.index.specs.Free.{vacate}
-use Rattle.eviction.specs.declared.EvictionHeap.{EvictionHeap}
 use Rattle.eviction.specs.Heap.{remove_heap}
 use Rattle.state.specs.declared.Counters.{Counters}
 use Rattle.state.specs.declared.State.{State}
-use Rattle.state.specs.Slots.{slot_at, vacant_slot}
-use Rattle.state.specs.Parts.{with_slot, with_index, with_heap, with_counters, with_held, count_eviction}
+use Rattle.state.specs.Slots.{slot_at}
+use Rattle.state.specs.Parts.{with_counters, count_eviction}
 use Rattle.state.specs.Answers.{After, told, unless_refused}
-use Rattle.state.specs.Fresh.{sound}
 use Rattle.state.specs.Remove.{detach_clean, remove_clean, need_clean, detach_counted, remove, detach}
-
--- ---- `detach_counted`: its ends
-module _ (t : State) (slot : ℕ) (k : Counters) (y : sound t ≡ true) (l : slot < t.capacity) (clean : (slot_at t slot).kind ≡ 2) where
-  pub detach_unheaped : {n : ℕ} → remove_heap t.capacity t.eviction slot ≡ refuse n → detach_counted t slot k ≡ record { table = t; answer = refuse n }
-  unfolding detach_counted need_clean detach_clean
-  detach_unheaped h = rw (y, lt-ltb slot t.capacity l, eq-eqb (slot_at t slot).kind 2 clean, h)
-
-  module _ {rest : EvictionHeap} (h : remove_heap t.capacity t.eviction slot ≡ ok rest) where
-    pub detach_unlinked : {n : ℕ} → vacate t.capacity t.index (slot_at t slot).key slot ≡ refuse n
-        → detach_counted t slot k ≡ record { table = t; answer = refuse n }
-    unfolding detach_counted need_clean detach_clean
-    detach_unlinked v = rw (y, lt-ltb slot t.capacity l, eq-eqb (slot_at t slot).kind 2 clean, h, v)
-
-    module _ {links : Index} (v : vacate t.capacity t.index (slot_at t slot).key slot ≡ ok links) where
-      pub detach_uncounted : t.clean ≡ 0 → detach_counted t slot k ≡ record { table = t; answer = refuse STOP }
-      unfolding detach_counted need_clean detach_clean
-      detach_uncounted z = rw (y, lt-ltb slot t.capacity l, eq-eqb (slot_at t slot).kind 2 clean, h, v, no_ltb t.clean z)
-
-      pub detach_done : (t.clean ≡ 0 → ⊥)
-          → detach_counted t slot k
-          ≡ told (with_counters (with_held (with_heap (with_index (with_slot t slot vacant_slot) links) rest) (t.clean - 1) t.loading) k) done
-      unfolding detach_counted need_clean detach_clean
-      detach_done z = rw (y, lt-ltb slot t.capacity l, eq-eqb (slot_at t slot).kind 2 clean, h, v, some_ltb t.clean z)
 
 -- the counters are not the detaching's own
 detach_keeps : (t : State) (slot : ℕ) (u : State) → detach_clean t slot ≡ ok u → u.counters ≡ t.counters

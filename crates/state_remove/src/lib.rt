@@ -7,84 +7,54 @@
 #![tactic(auto)]
 
 ghost use Rattle.std.specs.Prelude.{◌≡◌};
-ghost use Rattle.basics.specs.Try.{refuse};
 ghost use Rattle.state.specs.Answers.{finished_after};
-ghost use Rattle.state.specs.Remove.{detach_counted, detach, remove};
+ghost use Rattle.state.specs.Remove.{detach_counted as detach_counted_rule, detach, remove};
 
-use basics::Done;
-use state::{Counters, Finished, State};
-
-fn refused(t: State, why: u8) -> Finished
-    ensures { finished_after result ≡ record { table = t; answer = refuse why } }
-{
-    Finished {
-        state: t,
-        answer: Done::Refused(why),
-    }
-}
+use basics::Refusal;
+use state::{Counters, Outcome, State};
 
 // A clean slot's key leaves the heap and its chain, and the slot goes onto the stack; the counters are those given.
-fn detach_counted(mut t: State, slot: usize, counters: Counters) -> Finished
-    ensures { finished_after result ≡ detach_counted t slot counters }
+#[tactic(auto, using(basics::proofs::Tests::tests), unfolding(state::specs::Remove::detach_counted, state::specs::Remove::need_clean, state::specs::Remove::detach_clean))]
+fn detach_counted(t: &mut State, slot: usize, counters: Counters) -> Result<(), Refusal>
+    ensures { finished_after record { state = t.new; answer = result } ≡ detach_counted_rule t.old slot counters }
 {
-    if !state::sound(
-        t.capacity,
-        t.index.buckets,
-        t.index.free_len,
-        t.eviction.len,
-    ) {
-        return refused(t, basics::STOP);
-    }
+    t.check_sound()?;
     if t.capacity <= slot {
-        return refused(t, basics::SLOT);
+        return Err(Refusal::Slot);
     }
-    let entry = t.slots[slot];
-    if entry.kind != state::CLEAN {
-        return refused(t, basics::UNCLEAN);
+    if t.slots[slot].kind != state::CLEAN {
+        return Err(Refusal::Unclean);
     }
-    let heap = t.eviction;
-    let removed = eviction_sift::remove(heap, t.capacity, slot);
-    let out = removed.answer;
-    if let Done::Refused(why) = out {
-        return refused(t, why);
-    }
-    let index = t.index;
-    let key = entry.key;
-    let vacated = index_chains::vacate(t.capacity, index, key, slot);
-    let freed = vacated.answer;
-    if let Done::Refused(why) = freed {
-        return refused(t, why);
-    }
-    if t.clean == 0 {
-        return refused(t, basics::STOP);
-    }
-    let rest = removed.heap;
-    let links = vacated.index;
-    t.eviction = rest;
-    t.index = links;
-    let gone = state::vacant_slot();
-    t.slots[slot] = gone;
+    let heap = eviction_sift::remove(t.eviction, t.capacity, slot)?;
+    let index = index_chains::vacate(t.capacity, t.index, t.slots[slot].key, slot)?;
+    let clean = t.clean.checked_sub(1).ok_or(Refusal::Stop)?;
+    t.eviction = heap;
+    t.index = index;
+    t.slots[slot] = state::vacant_slot();
     t.counters = counters;
-    t.clean = t.clean - 1;
-    Finished {
-        state: t,
-        answer: Done::Done,
-    }
+    t.clean = clean;
+    Ok(())
 }
 
 // Removing counts an eviction.
-pub fn remove_clean(t: State, slot: usize) -> Finished
+#[tactic(auto, using(crate::proofs::Cases::remove_counted))]
+pub fn remove_clean(mut t: State, slot: usize) -> Outcome<()>
     ensures { finished_after result ≡ remove t slot }
 {
-    let mut counters = t.counters;
-    counters.evictions = basics::one_more(counters.evictions);
-    detach_counted(t, slot, counters)
+    let counters = Counters {
+        evictions: basics::one_more(t.counters.evictions),
+        ..t.counters
+    };
+    let answer = detach_counted(&mut t, slot, counters);
+    Outcome { state: t, answer }
 }
 
 // Detaching does not.
-pub fn detach_clean(t: State, slot: usize) -> Finished
+#[tactic(auto, using(crate::proofs::Cases::detach_counted_lem))]
+pub fn detach_clean(mut t: State, slot: usize) -> Outcome<()>
     ensures { finished_after result ≡ detach t slot }
 {
     let counters = t.counters;
-    detach_counted(t, slot, counters)
+    let answer = detach_counted(&mut t, slot, counters);
+    Outcome { state: t, answer }
 }

@@ -5,114 +5,78 @@
 // state/mod.rs, the calls that end a load: publish and abort. Both work on any table; a refusal hands the table back as it came.
 #![tactic(auto)]
 
-ghost use Rattle.std.specs.Prelude.{◌≡◌};
-ghost use Rattle.basics.specs.Try.{refuse};
-ghost use Rattle.state.specs.Answers.{finished_after, unless_refused};
-ghost use Rattle.state.specs.Tokens.{publish as publish_rule, abort as abort_rule};
+ghost use Rattle.std.specs.Prelude.{◌≡◌, ◌<◌, ◌≤◌, true, false, MatchResult};
+ghost use Rattle.basics.specs.declared.Refusal.TheVariants.{StaleLoad};
+ghost use Rattle.state.specs.Answers.{finished_after};
+ghost use Rattle.state.specs.Tokens.{outstanding, publish as publish_rule, abort as abort_rule};
 
-use basics::Done;
-use state::{Finished, LoadToken, Slot, State};
+use basics::Refusal;
+use state::{LoadToken, Outcome, Slot, State};
 
-fn stopped(t: State, why: u8) -> Finished
-    ensures { finished_after result ≡ unless_refused t (refuse why) }
+// The slot that loads for the token.
+#[tactic(auto, using(basics::proofs::Tests::tests), unfolding(state::specs::Tokens::outstanding))]
+fn loading_slot(t: &State, token: LoadToken) -> Result<usize, Refusal>
+    requires { t.now.capacity ≤ 256 }
+    ensures { MatchResult result (λ slot. (outstanding t.now token ≡ true) × ((slot ≡ token.slot) × (slot < t.now.capacity))) (λ why. (why ≡ StaleLoad) × (outstanding t.now token ≡ false)) }
 {
-    Finished {
-        state: t,
-        answer: Done::Refused(why),
+    let slot = usize::from(token.slot);
+    if t.capacity <= slot || !state::loads_for(t.slots[slot], token) {
+        return Err(Refusal::StaleLoad);
     }
+    Ok(slot)
 }
 
 // The slot becomes clean with the token's use number.
-pub fn publish(mut t: State, token: LoadToken) -> Finished
-    ensures { finished_after result ≡ publish_rule t token }
+#[tactic(auto, using(basics::proofs::Tests::tests), unfolding(state::specs::Tokens::publish))]
+fn publish_in(t: &mut State, token: LoadToken) -> Result<(), Refusal>
+    ensures { finished_after record { state = t.new; answer = result } ≡ publish_rule t.old token }
 {
-    if !state::sound(
-        t.capacity,
-        t.index.buckets,
-        t.index.free_len,
-        t.eviction.len,
-    ) {
-        return stopped(t, basics::STOP);
-    }
-    let at = basics::wide(token.slot);
-    if t.capacity <= at {
-        return stopped(t, basics::STALE);
-    }
-    let entry = t.slots[at];
-    if !state::loads_for(entry, token) {
-        return stopped(t, basics::STALE);
-    }
+    t.check_sound()?;
+    let slot = loading_slot(t, token)?;
     if t.next_access_sequence < token.access_sequence {
-        return stopped(t, basics::UNGIVEN);
+        return Err(Refusal::Ungiven);
     }
-    let dated = token.access_sequence;
-    let heap = t.eviction;
-    let inserted = eviction_sift::insert(heap, t.capacity, at, dated);
-    let answer = inserted.answer;
-    if let Done::Refused(why) = answer {
-        return stopped(t, why);
+    let heap = eviction_sift::insert(t.eviction, t.capacity, slot, token.access_sequence)?;
+    if t.loading == 0 || t.clean == basics::MAX_COUNT {
+        return Err(Refusal::Stop);
     }
-    if t.loading == 0 {
-        return stopped(t, basics::STOP);
-    }
-    if t.clean == basics::MAX_COUNT {
-        return stopped(t, basics::STOP);
-    }
-    t.clean = t.clean + 1;
-    t.loading = t.loading - 1;
-    let grown = inserted.heap;
-    let key = token.key;
-    t.eviction = grown;
-    t.slots[at] = Slot {
+    t.clean += 1;
+    t.loading -= 1;
+    t.eviction = heap;
+    t.slots[slot] = Slot {
         kind: state::CLEAN,
-        key: key,
+        key: token.key,
         generation: 0,
-        last_access: dated,
+        last_access: token.access_sequence,
     };
-    Finished {
-        state: t,
-        answer: Done::Done,
-    }
+    Ok(())
 }
 
 // The slot is free again.
-pub fn abort(mut t: State, token: LoadToken) -> Finished
+#[tactic(auto, using(basics::proofs::Tests::tests), unfolding(state::specs::Tokens::abort))]
+fn abort_in(t: &mut State, token: LoadToken) -> Result<(), Refusal>
+    ensures { finished_after record { state = t.new; answer = result } ≡ abort_rule t.old token }
+{
+    t.check_sound()?;
+    let slot = loading_slot(t, token)?;
+    let index = index_chains::vacate(t.capacity, t.index, token.key, slot)?;
+    let loading = t.loading.checked_sub(1).ok_or(Refusal::Stop)?;
+    t.index = index;
+    t.slots[slot] = state::vacant_slot();
+    t.loading = loading;
+    Ok(())
+}
+
+pub fn publish(mut t: State, token: LoadToken) -> Outcome<()>
+    ensures { finished_after result ≡ publish_rule t token }
+{
+    let answer = publish_in(&mut t, token);
+    Outcome { state: t, answer }
+}
+
+pub fn abort(mut t: State, token: LoadToken) -> Outcome<()>
     ensures { finished_after result ≡ abort_rule t token }
 {
-    if !state::sound(
-        t.capacity,
-        t.index.buckets,
-        t.index.free_len,
-        t.eviction.len,
-    ) {
-        return stopped(t, basics::STOP);
-    }
-    let slot = basics::wide(token.slot);
-    if t.capacity <= slot {
-        return stopped(t, basics::STALE);
-    }
-    let entry = t.slots[slot];
-    if !state::loads_for(entry, token) {
-        return stopped(t, basics::STALE);
-    }
-    let index = t.index;
-    let key = token.key;
-    let vacated = index_chains::vacate(t.capacity, index, key, slot);
-    let answer = vacated.answer;
-    if let Done::Refused(why) = answer {
-        return stopped(t, why);
-    }
-    if t.loading == 0 {
-        return stopped(t, basics::STOP);
-    }
-    let fewer = t.loading - 1;
-    let links = vacated.index;
-    let vacant = state::vacant_slot();
-    t.index = links;
-    t.slots[slot] = vacant;
-    t.loading = fewer;
-    Finished {
-        state: t,
-        answer: Done::Done,
-    }
+    let answer = abort_in(&mut t, token);
+    Outcome { state: t, answer }
 }
