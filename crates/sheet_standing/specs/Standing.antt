@@ -1,23 +1,21 @@
 -- SPDX-License-Identifier: Apache-2.0
 -- What stands between two records: the table, the token places, the pins, and whether there was a 1 that was not refused.
-use Rattle.std.specs.Prelude.{ℕ, true, false, List, take, get_or, set, replicate, if◌then◌else◌}
+use Rattle.std.specs.Prelude.{ℕ, true, false, Option, None, Some, List, take, get_or, set, replicate, if◌then◌else◌}
 use Rattle.basics.specs.Numbers.{NONE}
-use Rattle.key.specs.Key.{no_key}
 use Rattle.state.specs.declared.State.{State}
 use Rattle.state.specs.declared.LoadToken.{LoadToken}
 use Rattle.state.specs.Fresh.{no_table}
-use Rattle.sheet_standing.specs.declared.Place.{Place}
 use Rattle.sheet_standing.specs.declared.Standing.{Standing}
 
 -- a token place with nothing in it, and one with a token
-abbrev pub empty_place : Place
-empty_place = record { token = record { slot = 0; generation = 0; key = no_key; access_sequence = 0 }; full = false }
+abbrev pub empty_place : Option LoadToken
+empty_place = None
 
-abbrev pub holding : LoadToken → Place
-holding k = record { token = k; full = true }
+abbrev pub holding : LoadToken → Option LoadToken
+holding k = Some k
 
 -- "token place (0 to 15)"
-unfoldable pub empty_places : List Place
+unfoldable pub empty_places : List (Option LoadToken)
 empty_places = replicate 16 empty_place
 
 -- a byte for each slot of the largest table
@@ -42,7 +40,7 @@ with_pins s pins = record { state = s.state; places = s.places; pins = pins; sta
 abbrev pub with_token : Standing → ℕ → LoadToken → Standing
 with_token s place k = record { state = s.state; places = set s.places place (holding k); pins = s.pins; stands = s.stands }
 
-abbrev pub place_at : Standing → ℕ → Place
+abbrev pub place_at : Standing → ℕ → Option LoadToken
 place_at s place = get_or s.places place empty_place
 
 -- the pins that are lent: a byte for each slot of the table
