@@ -1,13 +1,13 @@
 -- SPDX-License-Identifier: Apache-2.0
--- What the proofs of the table's functions share and callers cite: the first test, and tokens. Assumes nothing.
+-- What the proofs of the table's functions share and callers cite: the first test. Assumes nothing.
 use Prim.Native.Nat.{ℕ, ◌≤◌, ◌<◌}
 use mathlib.Core.Path.{◌≡◌, refl, sym}
-use mathlib.Core.Bool.{Bool, true, false, ◌&&◌}
+use mathlib.Core.Bool.{Bool, true, ◌&&◌}
 use Rattle.std.specs.Prelude.{Result, Ok, Err, nat_eq}
 use Rattle.std.specs.Result.{result_eq}
 use native.Mathlib.Omega.{arith}
 use lib.Dec.{leb, ltb, eqb}
-use borrow.Author.Tests.{ltb-true, leb-true, eqb-true, eqb-false, lt-ltb, le-ltb, le-leb, eq-eqb, ne_eqb}
+use borrow.Author.Tests.{ltb-true, leb-true, eqb-true, eqb-false, lt-ltb, le-leb, eq-eqb, ne_eqb}
 use Rattle.basics.specs.Try.{Try, ok, refuse, ◌>>◌}
 use Rattle.basics.specs.declared.Refusal.{Refusal}
 use Rattle.basics.specs.Answers.{Fine, done, number, answer}
@@ -16,11 +16,7 @@ use Rattle.basics.proofs.Tests.{yes!, no!, is, and_left, and_right}
 use Rattle.basics.proofs.Capacities.{capacity_fits, capacity_allowed}
 use Rattle.key.specs.Bucket.{bucket_count, count_for}
 use Rattle.key.proofs.Least.{some_bucket, few_buckets}
-use Rattle.state.specs.declared.State.{State}
-use Rattle.state.specs.declared.LoadToken.{LoadToken}
-use Rattle.state.specs.Slots.{slot_at}
 use Rattle.state.specs.Fresh.{sound_sizes}
-use Rattle.state.specs.Tokens.{loads_for, outstanding}
 
 -- ---- the first test
 
@@ -85,13 +81,3 @@ sizes_told c buckets vacant held f (Err why) e t =
             absurd (omega arith)
       ]
     ]
-
--- ---- a token, whose slot the code has as a number of its own
-module _ (t : State) (k : LoadToken) {slot : ℕ} (w : slot ≡ k.slot) where
-  pub outstanding_out : t.capacity ≤ slot → outstanding t k ≡ false
-  unfolding outstanding
-  outstanding_out l = rw (← w, le-ltb slot t.capacity l)
-
-  pub outstanding_in : slot < t.capacity → outstanding t k ≡ loads_for (slot_at t slot) k
-  unfolding outstanding
-  outstanding_in l = rw (← w, lt-ltb slot t.capacity l)
