@@ -3,7 +3,7 @@
 // Ported from src/fs/cache/index.rs of HypeR-Proj/kernel at 53afd06a1d, changed; see NOTICE.
 
 // index.rs: the chains of slots and the stack of vacant slots: a new index, the stack, and what reads a chain. Each function works on any value:
-// where the Rust would stop, it is refused.
+// where the Rust would stop, it is refused. Each `as u16` is proved to lose nothing; `try_from` could fail.
 #![tactic(auto)]
 
 ghost use Rattle.std.specs.Prelude.{◌-◌, ◌≤◌, ◌≡◌, ◌++◌, replicate, true, false, MatchResult, OnOk};
@@ -18,7 +18,7 @@ ghost use Rattle.index.specs.Fresh.{no_index, new_index};
 use basics::{NONE, Refusal};
 use key::CacheKey;
 
-// By value, in fixed memory: `free_len` places of the stack are in use, and the others are 0.
+// No arrayvec for the stack: the rules read the places past its length too ("other places past a length are 0").
 #[derive(Clone, Copy)]
 pub struct Index {
     pub heads: [u16; 512],

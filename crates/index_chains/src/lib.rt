@@ -3,7 +3,7 @@
 // Ported from src/fs/cache/index.rs of HypeR-Proj/kernel at 53afd06a1d, changed; see NOTICE.
 
 // index.rs, the chains: whether one takes a slot, a slot put in or taken out, and one given up. Each function works on any value: where the Rust
-// would stop, it is refused.
+// would stop, it is refused. The `as u16` is proved to lose nothing; `try_from` could fail.
 #![tactic(auto)]
 
 ghost use Rattle.std.specs.Prelude.{◌≡◌};

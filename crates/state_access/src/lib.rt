@@ -3,7 +3,7 @@
 // Ported from src/fs/cache/state/mod.rs of HypeR-Proj/kernel at 53afd06a1d, changed; see NOTICE.
 
 // state/mod.rs, the call that makes a load: access (the Rust's `access_with_victim`). It works on any table and any pin bytes; a refusal hands
-// the table back as it came, but for the generation that 7 in a reservation uses up.
+// the table back as it came, but for the generation that 7 in a reservation uses up. The `as u16` is proved to lose nothing; `try_from` could fail.
 #![tactic(auto)]
 
 ghost use Rattle.std.specs.Prelude.{◌≡◌, ◌<◌, ◌≤◌};

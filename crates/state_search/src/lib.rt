@@ -112,7 +112,8 @@ pub fn seek(t: &mut State, key: CacheKey) -> Result<Seen, Refusal>
     Ok(Seen::Hit(slot))
 }
 
-// The slot of the key's chain that is clean with the key; a loading one is passed.
+// The slot of the key's chain that is clean with the key; a loading or vacant one is passed. So its walk has a rule of its own, and is not `find`'s with
+// another test.
 #[tactic(auto, using(basics::proofs::Tests::tests, crate::proofs::Cases::peek_step, crate::proofs::Cases::peek_end), unfolding(state::specs::Reads::peek_clean))]
 pub fn peek(t: &State, key: CacheKey) -> Result<Option<usize>, Refusal>
     ensures { found_answer result ≡ peek_clean t.now key }
