@@ -1,3 +1,4 @@
 -- SPDX-License-Identifier: Apache-2.0
 pub mod Answers
 pub mod Reclaim
+pub mod Parts

@@ -6,105 +6,97 @@
 #![tactic(auto)]
 
 ghost use Rattle.std.specs.Prelude.{◌≡◌, true, ◌≤◌};
-ghost use Rattle.basics.specs.Try.{refuse};
 ghost use Rattle.state.specs.Fresh.{sound};
 ghost use Rattle.maintenance_reclaim.specs.Answers.{batch_after};
+ghost use Rattle.maintenance_reclaim.specs.Parts.{removed_answer};
 ghost use Rattle.maintenance_reclaim.specs.Reclaim.{no_slots, reclaim_from, unless_refused as unless_stopped, reclaim as reclaim_rule};
 
-use basics::Done;
-use eviction::Cold;
+use basics::Refusal;
 use state::State;
 
 // The most slots that one reclaim removes.
 pub const RECLAIM_BATCH: usize = 64;
 
-// What reclaim hands back: the slots removed in order, then 65535, and how many they are.
+// What reclaim hands back, in fixed memory: the slots removed in order, then 65535, and how many they are.
 #[derive(Clone, Copy)]
 pub struct Batch {
     pub state: State,
-    pub slots: [u16; 64],
+    pub slots: [u16; RECLAIM_BATCH],
     pub count: usize,
-    pub answer: Done,
+    pub answer: Result<(), Refusal>,
 }
 
-// The table as it came, with no slot.
-fn unreclaimed(t: State, why: u8) -> Batch
-    ensures { batch_after result ≡ record { table = t; answer = refuse why; count = 0; slots = no_slots } }
-{
-    Batch {
-        state: t,
-        slots: [basics::NONE; 64],
-        count: 0,
-        answer: Done::Refused(why),
-    }
+// The same where nothing was refused.
+#[derive(Clone, Copy)]
+struct Removed {
+    state: State,
+    slots: [u16; RECLAIM_BATCH],
+    count: usize,
 }
 
 // So many rounds: a victim is looked for afresh and removed. A refusal in a later round gives up the earlier removals too.
-fn reclaim_rounds(t: State, rounds: usize, pins: &[u8]) -> Batch
-    requires { (sound t ≡ true) × (rounds ≤ 64) }
-    ensures { batch_after result ≡ unless_stopped t (reclaim_from rounds pins.now (record { table = t; count = 0; slots = no_slots })) }
+#[tactic(auto, using(crate::proofs::Reclaims::round_refused, crate::proofs::Reclaims::round_none, crate::proofs::Reclaims::round_unclean, crate::proofs::Reclaims::round_stops, crate::proofs::Reclaims::round_on, crate::proofs::Reclaims::gone_sound, crate::proofs::Reclaims::victim_low, crate::proofs::Reclaims::rounds_end))]
+fn reclaim_rounds(t: &State, rounds: usize, pins: &[u8]) -> Result<Removed, Refusal>
+    requires { (sound t.now ≡ true) × (rounds ≤ 64) }
+    ensures { removed_answer result ≡ reclaim_from rounds pins.now (record { table = t.now; count = 0; slots = no_slots }) }
 {
-    let mut rest = t;
-    let mut slots: [u16; 64] = [basics::NONE; 64];
-    let mut count: usize = 0;
-    let mut left = rounds;
-    while 0 < left {
-        left -= 1;
-        let heap = rest.eviction;
-        let cold = state_choice::victim(rest.capacity, heap, rest.clean, pins);
-        match cold {
-            Cold::Refused(why) => {
-                return unreclaimed(t, why);
-            }
-            Cold::Nothing => {
-                return Batch {
-                    state: rest,
-                    slots: slots,
-                    count: count,
-                    answer: Done::Done,
-                };
-            }
-            Cold::At(slot) => {
-                let entry = rest.slots[slot];
-                if entry.kind != state::CLEAN {
-                    return unreclaimed(t, basics::STOP);
-                }
-                let removed = state_remove::remove_clean(rest, slot);
-                let answer = removed.answer;
-                if let Done::Refused(stop) = answer {
-                    return unreclaimed(t, stop);
-                }
-                rest = removed.state;
-                slots[count] = slot as u16;
-                count += 1;
-            }
+    let mut rest = *t;
+    let mut slots = [basics::NONE; RECLAIM_BATCH];
+    for count in 0..rounds {
+        let Some(slot) = state_choice::victim(rest.capacity, &rest.eviction, rest.clean, pins)?
+        else {
+            return Ok(Removed {
+                state: rest,
+                slots,
+                count,
+            });
+        };
+        if rest.slots[slot].kind != state::CLEAN {
+            return Err(Refusal::Stop);
         }
+        let removed = state_remove::remove_clean(rest, slot);
+        removed.answer?;
+        rest = removed.state;
+        slots[count] = slot as u16;
     }
-    Batch {
+    Ok(Removed {
         state: rest,
-        slots: slots,
-        count: count,
-        answer: Done::Done,
+        slots,
+        count: rounds,
+    })
+}
+
+// The tests, then the rounds.
+#[tactic(auto, unfolding(crate::specs::Reclaim::reclaim))]
+fn reclaim_tested(t: &State, limit: usize, pins: &[u8]) -> Result<Removed, Refusal>
+    ensures { unless_stopped t.now (removed_answer result) ≡ reclaim_rule t.now limit pins.now }
+{
+    t.check_sound()?;
+    if pins.len() != t.capacity {
+        return Err(Refusal::Pins);
     }
+    reclaim_rounds(t, limit.min(RECLAIM_BATCH), pins)
 }
 
 // The Rust's `reclaim_batch`.
 pub fn reclaim(t: State, limit: usize, pins: &[u8]) -> Batch
     ensures { batch_after result ≡ reclaim_rule t limit pins.now }
 {
-    if !state::sound(
-        t.capacity,
-        t.index.buckets,
-        t.index.free_len,
-        t.eviction.len,
-    ) {
-        return unreclaimed(t, basics::STOP);
+    match reclaim_tested(&t, limit, pins) {
+        Ok(removed) => {
+            let slots = removed.slots;
+            Batch {
+                state: removed.state,
+                slots,
+                count: removed.count,
+                answer: Ok(()),
+            }
+        }
+        Err(why) => Batch {
+            state: t,
+            slots: [basics::NONE; RECLAIM_BATCH],
+            count: 0,
+            answer: Err(why),
+        },
     }
-    if pins.len() != t.capacity {
-        return unreclaimed(t, basics::PINS);
-    }
-    if limit < RECLAIM_BATCH {
-        return reclaim_rounds(t, limit, pins);
-    }
-    reclaim_rounds(t, RECLAIM_BATCH, pins)
 }

@@ -1,7 +1,7 @@
 -- SPDX-License-Identifier: Apache-2.0
 -- `maintenance_reclaim::reclaim_rounds` meets its contract: what is left to do is in the rounds left, and the table passes its first test throughout.
 -- Assumes nothing.
-use Prim.Native.Nat.{◌+◌, ◌≤◌}
+use Prim.Native.Nat.{◌-◌}
 use mathlib.Core.Path.{◌≡◌}
 use mathlib.Core.Bool.{true}
 use Rattle.state.specs.Fresh.{sound}
@@ -9,10 +9,7 @@ use Rattle.maintenance_reclaim.specs.Reclaim.{no_slots, reclaim_from}
 use Rattle.maintenance_reclaim.proofs.Reclaims.{taken}
 use Rattle.maintenance_reclaim.proofs.reclaim_rounds.Given as goal
 
-abbrev pub invariant-loop-left : goal.invariant-loop-left
-invariant-loop-left l =
-    (reclaim_from l.left l.pins (taken l.rest l.count l.slots) ≡ reclaim_from l.rounds l.pins (taken l.t 0 no_slots)) ×
-    ((sound l.rest ≡ true) × (l.count + l.left ≤ 64))
-
-abbrev pub decreases-loop-left : goal.decreases-loop-left
-decreases-loop-left l = l.left
+abbrev pub invariant-loop-count : goal.invariant-loop-count
+invariant-loop-count l =
+    (reclaim_from (l.rounds - l.count) l.pins (taken l.rest l.count l.slots) ≡ reclaim_from l.rounds l.pins (taken l.t 0 no_slots)) ×
+    (sound l.rest ≡ true)
