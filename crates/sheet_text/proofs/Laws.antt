@@ -6,76 +6,99 @@ use Prim.Native.Nat.{ℕ, zero, suc, ◌+◌, ◌-◌, ◌*◌, ◌≤◌, ◌<�
 use native.Mathlib.Omega.{arith}
 use native.Mathlib.Numerals.{add-one}
 use mathlib.Core.Path.{◌≡◌, refl, sym, ◌∙◌, ap, subst}
-use mathlib.Core.Bool.{Bool, true, false, ◌&&◌}
+use mathlib.Core.Bool.{Bool, true, false, not, cond, beq, ◌&&◌}
 use mathlib.Core.List.{List, [], ◌∷◌}
 use lib.Dec.{eqb, ltb, leb}
 use lib.ListN.{length, take, drop, set, get_or, drop_of_length-le}
-use lib.Seq.{drop-cons, take-length, drop-drop, get_or-set_same, get_or-set_other}
-use borrow.Author.Tests.{lt-ltb, le-ltb, le-leb, eq-eqb, ne_eqb, eqb-true, eqb-false, ltb-true, leb-true}
-use Rattle.basics.specs.Try.{ok, refuse}
-use Rattle.basics.proofs.Tests.{is, yes!, no!, false_true, and_left, and_right}
+use lib.Seq.{drop-cons, drop-drop, get_or-set_same, get_or-set_other}
+use borrow.Author.Tests.{lt-ltb, le-ltb, le-leb, eq-eqb, ne_eqb, eqb-true, eqb-false, ltb-true, ltb-false, leb-true, leb-false}
+use Rattle.std.proofs.Common.{Option, Some, None, Result, Ok, Err, unwrap_or}
+use Rattle.std.specs.List.{slice_range, position, position_or_len}
+use Rattle.std.specs.Str.{bytes_eq}
+use Rattle.std.specs.Char.{is_ascii_digit}
+use Rattle.std.proofs.lemmas.Bool.{false≢true}
+use Rattle.std.proofs.lemmas.List.Sums.{prefix_len-le-length}
+use Rattle.std.proofs.lemmas.List.Recursion.{is_position_or_len}
+use Rattle.std.proofs.lemmas.Option.{none-some, same_Some}
+use Rattle.std.proofs.lemmas.Slice.{between_to_end}
+use Rattle.basics.proofs.Tests.{is, yes!, no!, and_left, and_right}
 use Rattle.sheet_text.specs.Find.{index_of}
-use Rattle.std.specs.List.{slice_range}
 use Rattle.sheet_record.specs.Good.{good}
-use Rattle.sheet_show.proofs.Laws.{all_from}
-use Rattle.sheet_text.specs.declared.Number.{Number}
-use Rattle.sheet_text.specs.declared.Parsed.{Parsed}
+use Rattle.sheet_lines.specs.declared.Record.{Record}
+use Rattle.sheet_text.specs.declared.Why.{Why}
+use Rattle.sheet_text.specs.declared.Ask.{Ask}
+use Rattle.sheet_text.specs.declared.Field.{Field}
 use Rattle.sheet_text.specs.declared.Begun.{Begun}
 use Rattle.sheet_text.specs.declared.Span.{Span}
-use Rattle.sheet_text.specs.Parse.{counts_as, run_of, same_bytes, place_in, number_from, number_of, number_try, word_size, word, behind, skip, least, most, call_of, begin, faulty, going, with_word, record_of, finished, with_words, text_says, within, good_line}
+use Rattle.sheet_text.specs.declared.Fault.{Fault}
+use Rattle.sheet_text.specs.Parse.{and_then, is_blank, counts_as, run_of, same_bytes, place_in, number_from, number_of, skip, word_size, word, behind, word_from, word_to, span_at, next_word, field, value_at, least, most, call_of, begin, faulty, going, field_of, with_value, with_word, record_of, finished, with_words, text_says, within, in_line, good_call, good_line}
 
--- where a byte is found in the whole list
-pub found_at : (b : ℕ) (l : List ℕ) (r : ℕ) → r ≡ 0 + index_of b (slice_range l 0 (length l)) → r ≡ index_of b l
-found_at b l r e =
-    let n : length l - 0 ≡ length l = omega arith in
-    let z : 0 + index_of b l ≡ index_of b l = omega arith in
-    e ∙ ap (λ k. 0 + index_of b (take k l)) n ∙ ap (λ k. 0 + index_of b k) (take-length l) ∙ z
+-- ---- the first byte that is so
+-- a count of the bytes before it is what `position` finds
+pos_le : (p : ℕ → Bool) (xs : List ℕ) → position_or_len p xs ≤ length xs
+pos_le p xs = prefix_len-le-length (λ x. not (p x)) xs
 
--- where it is found, a byte at a time
-module _ (b : ℕ) (l : List ℕ) (i to : ℕ) (inside : i < to) (fits : to ≤ length l) where
-  part_is : slice_range l i to ≡ get_or l i 0 ∷ slice_range l (i + 1) to
-  part_is =
-      let n : to - i ≡ suc (to - suc i) = omega arith in
-      rw (add-one i, n, drop-cons l i 0 (omega arith))
+first_is : (F : List ℕ → ℕ) (p : ℕ → Bool) → F [] ≡ 0 → ((x : ℕ) (xs : List ℕ) → F (x ∷ xs) ≡ cond (p x) 0 (1 + F xs)) → (xs : List ℕ)
+    → unwrap_or (position p xs) (length xs) ≡ F xs
+first_is F p none more xs = elim (is (ltb (position_or_len p xs) (length xs))) [
+  | yes! e ↦ rw e (sym (is_position_or_len F p none more xs))
+  | no! e ↦ rw e (sym (is_position_or_len F p none more xs ∙ omega (arith, ltb-false _ _ e, pos_le p xs)))
+]
 
-  pub find_here : get_or l i 0 ≡ b → index_of b (slice_range l i to) ≡ 0
-  unfolding index_of
-  find_here e = rw (part_is, eq-eqb (get_or l i 0) b e)
-
-  pub find_goes : (get_or l i 0 ≡ b → ⊥) → index_of b (slice_range l i to) ≡ index_of b (slice_range l (i + 1) to) + 1
-  unfolding index_of
-  find_goes n = rw (part_is, ne_eqb (get_or l i 0) b n) (sym (add-one (index_of b (slice_range l (i + 1) to))))
-
-pub find_ends : (b : ℕ) (l : List ℕ) (i to : ℕ) → to ≤ i → index_of b (slice_range l i to) ≡ 0
+find_step : (b x : ℕ) (xs : List ℕ) (t : Bool) → t ≡ eqb x b → index_of b (x ∷ xs) ≡ cond (eqb x b) 0 (1 + index_of b xs)
 unfolding index_of
-find_ends b l i to h =
-    let n : to - i ≡ 0 = omega arith in
-    rw n
+find_step b x xs true e = rw (← e)
+find_step b x xs false e = rw (← e) (omega arith)
 
--- ---- a run of bytes
-pub run_goes : (blank : Bool) (text : List ℕ) (i : ℕ) → i < length text → counts_as blank (get_or text i 0) ≡ true → run_of blank (drop i text) ≡ run_of blank (drop (i + 1) text) + 1
-unfolding run_of
-run_goes blank text i h e = rw (add-one i, drop-cons text i 0 h, e) (sym (add-one (run_of blank (drop (suc i) text))))
+pub find_is : (b : ℕ) (l : List ℕ) → unwrap_or (position (λ x. eqb x b) l) (length l) ≡ index_of b l
+unfolding index_of
+find_is b l = first_is (λ t. index_of b t) (λ x. eqb x b) refl (λ x xs. find_step b x xs (eqb x b) refl) l
 
-pub run_stops : (blank : Bool) (text : List ℕ) (i : ℕ) → i < length text → counts_as blank (get_or text i 0) ≡ false → run_of blank (drop i text) ≡ 0
-unfolding run_of
-run_stops blank text i h e = rw (drop-cons text i 0 h, e)
+pub counts_lem : (blank : Bool) (b : ℕ) → beq (is_blank b) blank ≡ counts_as blank b
+unfolding counts_as
+counts_lem blank b = beq_lem (is_blank b) blank
+  where
+    beq_lem : (a b : Bool) → beq a b ≡ cond a b (not b)
+    beq_lem true true = refl
+    beq_lem true false = refl
+    beq_lem false true = refl
+    beq_lem false false = refl
 
-pub run_ends : (blank : Bool) (text : List ℕ) (i : ℕ) → length text ≤ i → run_of blank (drop i text) ≡ 0
+run_step : (blank : Bool) (x : ℕ) (xs : List ℕ) (b : Bool) → b ≡ counts_as blank x → run_of blank (x ∷ xs) ≡ cond (not (counts_as blank x)) 0 (1 + run_of blank xs)
 unfolding run_of
-run_ends blank text i h = rw (drop_of_length-le text h)
+run_step blank x xs true e = rw (← e) (omega arith)
+run_step blank x xs false e = rw (← e)
+
+pub run_is : (blank : Bool) (l : List ℕ) → unwrap_or (position (λ x. not (counts_as blank x)) l) (length l) ≡ run_of blank l
+unfolding run_of
+run_is blank l = first_is (λ t. run_of blank t) (λ x. not (counts_as blank x)) refl (λ x xs. run_step blank x xs (counts_as blank x) refl) l
 
 -- ---- a number's digits
+digit_above : (b : ℕ) → 48 ≤ b → is_ascii_digit b ≡ false → 57 < b
+digit_above b l h = elim (is (leb b 57)) [
+  | yes! e ↦ absurd (false≢true (sym h ∙ rw (le-leb 48 b l, e)))
+  | no! e ↦ omega (arith, leb-false _ _ e)
+]
+
+pub digit_is : (b : ℕ) → is_ascii_digit b ≡ true → (48 ≤ b) × (b ≤ 57)
+digit_is b h = (leb-true 48 b (and_left (leb 48 b) (leb b 57) h), leb-true b 57 (and_right (leb 48 b) (leb b 57) h))
+
+pub number_begins : (w : List ℕ) → (length w ≡ 0 → ⊥) → number_from 0 w ≡ number_of w
+unfolding number_of
+number_begins w n = rw (ne_eqb (length w) 0 n)
+
 module _ (w : List ℕ) (n i : ℕ) (inside : i < length w) where
-  pub digit_low : get_or w i 0 < 48 → number_from n (drop i w) ≡ refuse 3
+  pub digit_none : is_ascii_digit (get_or w i 0) ≡ false → number_from n (drop i w) ≡ Err Why.NoNumber
   unfolding number_from
-  digit_low h = rw (drop-cons w i 0 inside, lt-ltb _ _ h)
+  digit_none h = elim (is (ltb (get_or w i 0) 48)) [
+    | yes! e ↦ rw (drop-cons w i 0 inside, e)
+    | no! e ↦
+        let l = ltb-false _ _ e in
+        let m = digit_above (get_or w i 0) l h in
+        rw (drop-cons w i 0 inside, e, lt-ltb _ _ m)
+  ]
 
-  pub digit_high : 48 ≤ get_or w i 0 → 57 < get_or w i 0 → number_from n (drop i w) ≡ refuse 3
-  unfolding number_from
-  digit_high l h = rw (drop-cons w i 0 inside, le-ltb _ _ l, lt-ltb _ _ h)
-
-  pub digit_large : 48 ≤ get_or w i 0 → get_or w i 0 ≤ 57 → 18446744073709551615 < n * 10 + (get_or w i 0 - 48) → number_from n (drop i w) ≡ refuse 4
+  pub digit_large : 48 ≤ get_or w i 0 → get_or w i 0 ≤ 57 → 18446744073709551615 < n * 10 + (get_or w i 0 - 48) → number_from n (drop i w) ≡ Err Why.Range
   unfolding number_from
   digit_large l h m = rw (drop-cons w i 0 inside, le-ltb _ _ l, le-ltb _ _ h, lt-ltb _ _ m)
 
@@ -83,114 +106,132 @@ module _ (w : List ℕ) (n i : ℕ) (inside : i < length w) where
   unfolding number_from
   digit_goes l h m = rw (drop-cons w i 0 inside, le-ltb _ _ l, le-ltb _ _ h, le-ltb _ _ m, add-one)
 
-pub digits_end : (w : List ℕ) (n i : ℕ) → length w ≤ i → number_from n (drop i w) ≡ ok n
+pub digits_end : (w : List ℕ) (n i : ℕ) → length w ≤ i → number_from n (drop i w) ≡ Ok n
 unfolding number_from
 digits_end w n i h = rw (drop_of_length-le w h)
 
--- what the code's answer says of the number
-pub number_is : {x : Number} {n : ℕ} (w : List ℕ) → number_try x ≡ number_of w → x ≡ Number.Is n → number_of w ≡ ok n
-number_is w e t = sym e ∙ ap number_try t
-
-pub number_wrong : {x : Number} {why : ℕ} (w : List ℕ) → number_try x ≡ number_of w → x ≡ Number.Wrong why → number_of w ≡ refuse why
-number_wrong w e t = sym e ∙ ap number_try t
-
 -- ---- equal words
-same_list : (a b : List ℕ) → same_bytes a b ≡ true → a ≡ b
+pub same_is : (a b : List ℕ) → bytes_eq a b ≡ same_bytes a b
 unfolding same_bytes
-same_list [] [] e = refl
-same_list [] (y ∷ b) e = absurd (false_true e)
-same_list (x ∷ a) [] e = absurd (false_true e)
-same_list (x ∷ a) (y ∷ b) e =
-    let p = eqb-true x y (and_left (eqb x y) (same_bytes a b) e) in
-    let q = same_list a b (and_right (eqb x y) (same_bytes a b) e) in
-    rw (p, q)
-
-same_self : (a : List ℕ) → same_bytes a a ≡ true
-unfolding same_bytes
-same_self [] = refl
-same_self (x ∷ a) = rw (eq-eqb x x refl, same_self a)
-
-pub same_means : (r : Bool) (a b : List ℕ) → (r ≡ true → a ≡ b) → (a ≡ b → r ≡ true) → r ≡ same_bytes a b
-same_means true a b f g = rw (f refl) (sym (same_self b))
-same_means false a b f g = elim (is (same_bytes a b)) [
-  | yes! e ↦ absurd (false_true (g (same_list a b e)))
-  | no! e ↦ sym e
-]
+same_is [] [] = refl
+same_is [] (y ∷ b) = refl
+same_is (x ∷ a) [] = refl
+same_is (x ∷ a) (y ∷ b) = rw (same_is a b)
 
 -- ---- the next word of a text, by its places
 skip_is : (l : List ℕ) (at from : ℕ) → from ≡ at + run_of true (drop at l) → skip (drop at l) ≡ drop from l
 skip_is l at from e = drop-drop (run_of true (drop at l)) at l ∙ ap (λ k. drop k l) (sym e)
 
-pub size_at : (l : List ℕ) (at from b : ℕ) → from ≡ at + run_of true (drop at l) → b ≡ run_of false (take (length l - from) (drop from l)) → b ≡ word_size (drop at l)
-size_at l at from b e r = r ∙ ap (λ k. run_of false k) (all_from l from (length l) refl ∙ sym (skip_is l at from e))
+from_at : (l : List ℕ) (at a : ℕ) → a ≡ run_of true (slice_range l at (length l)) → at + a ≡ at + run_of true (drop at l)
+from_at l at a p = ap (λ k. at + k) (p ∙ ap (λ k. run_of true k) (between_to_end l at (length l) (omega arith)))
+
+size_at : (l : List ℕ) (at from b : ℕ) → from ≡ at + run_of true (drop at l) → b ≡ run_of false (take (length l - from) (drop from l)) → b ≡ word_size (drop at l)
+size_at l at from b e r = r ∙ ap (λ k. run_of false k) (between_to_end l from (length l) (omega arith) ∙ sym (skip_is l at from e))
 
 module _ (l : List ℕ) (at from to : ℕ) (from_is : from ≡ at + run_of true (drop at l)) (to_is : to ≡ from + word_size (drop at l)) where
-  pub size_is : word_size (drop at l) ≡ to - from
+  size_is : word_size (drop at l) ≡ to - from
   size_is = omega arith
 
-  pub word_is : word (drop at l) ≡ take (to - from) (drop from l)
+  word_is : word (drop at l) ≡ take (to - from) (drop from l)
   word_is = ap (λ k. take k (skip (drop at l))) size_is ∙ ap (λ k. take (to - from) k) (skip_is l at from from_is)
 
-  pub behind_is : behind (drop at l) ≡ drop to l
+  behind_is : behind (drop at l) ≡ drop to l
   behind_is = ap (λ k. drop (word_size (drop at l)) k) (skip_is l at from from_is) ∙ drop-drop (word_size (drop at l)) from l ∙ ap (λ k. drop k l) (sym to_is)
 
-  pub words_none : (left : ℕ) (b : Begun) (call : Span) → 0 < left → from ≡ to → with_words left b call at (drop at l) ≡ finished b call
-  unfolding with_words
-  words_none zero b call h e = absurd (omega arith)
-  words_none (suc left) b call h e = rw (eq-eqb (word_size (drop at l)) 0 (omega arith))
+-- ---- the next word, by what the code answers
+pub next_none : (l : List ℕ) (at a b : ℕ) → a ≡ run_of true (slice_range l at (length l)) → b ≡ run_of false (slice_range l (at + a) (length l))
+    → at + a ≡ at + a + b → None ≡ next_word at (drop at l)
+next_none l at a b p q h =
+    let f = from_at l at a p in
+    let z = size_at l at (at + a) b f q in
+    rw (eq-eqb (word_size (drop at l)) 0 (omega arith))
 
-  pub words_more : (left : ℕ) (b : Begun) (call : Span) → 0 < left → (from ≡ to → ⊥)
-      → with_words left b call at (drop at l) ≡ going (with_word b (take (to - from) (drop from l))) from to (λ next. with_words (left - 1) next call to (drop to l))
+pub next_some : (l : List ℕ) (at a b : ℕ) → a ≡ run_of true (slice_range l at (length l)) → b ≡ run_of false (slice_range l (at + a) (length l))
+    → (at + a ≡ at + a + b → ⊥) → Some (record { from = at + a; to = at + a + b }) ≡ next_word at (drop at l)
+next_some l at a b p q n =
+    let f = from_at l at a p in
+    let z = size_at l at (at + a) b f q in
+    rw (ne_eqb (word_size (drop at l)) 0 (λ e. n (omega arith)), ← f, ← z)
+
+-- where there is none, and its places where there is one
+none_size : (at : ℕ) (t : List ℕ) → next_word at t ≡ None → eqb (word_size t) 0 ≡ true
+none_size at t e = elim (is (eqb (word_size t) 0)) [
+  | yes! y ↦ y
+  | no! n ↦ absurd (none-some (span_at at t) (sym (rw n at e)))
+]
+
+some_size : (at : ℕ) (t : List ℕ) (w : Span) → next_word at t ≡ Some w → (eqb (word_size t) 0 ≡ false) × (span_at at t ≡ w)
+some_size at t w e = elim (is (eqb (word_size t) 0)) [
+  | yes! y ↦ absurd (none-some w (rw y at e))
+  | no! n ↦ (n, same_Some (span_at at t) w (rw n at e))
+]
+
+pub words_none : (l : List ℕ) (at left : ℕ) (b : Begun) (call : Span) → next_word at (drop at l) ≡ None → with_words left b call at (drop at l) ≡ finished b call
+unfolding with_words
+words_none l at zero b call e = refl
+words_none l at (suc left) b call e = rw (none_size at (drop at l) e)
+
+module _ (l : List ℕ) (at : ℕ) (w : Span) (e : next_word at (drop at l) ≡ Some w) where
+  span_is : (w.from ≡ at + run_of true (drop at l)) × (w.to ≡ w.from + word_size (drop at l))
+  span_is = let s = (some_size at (drop at l) w e).1 in rw (← s) (refl, refl)
+
+  taken_is : word (drop at l) ≡ slice_range l w.from w.to
+  taken_is = word_is l at w.from w.to span_is.0 span_is.1
+
+  left_is : behind (drop at l) ≡ drop w.to l
+  left_is = behind_is l at w.from w.to span_is.0 span_is.1
+
+  begins_is : word_from at (drop at l) ≡ w.from
+  begins_is = ap (λ (x : Span). x.from) (some_size at (drop at l) w e).1
+
+  to_is : word_to at (drop at l) ≡ w.to
+  to_is = ap (λ (x : Span). x.to) (some_size at (drop at l) w e).1
+
+  pub words_more : (left : ℕ) (b : Begun) (call : Span) → 0 < left
+      → with_words left b call at (drop at l) ≡ going (with_word b (slice_range l w.from w.to)) w (λ next. with_words (left - 1) next call w.to (drop w.to l))
   unfolding with_words
-  words_more zero b call h n = absurd (omega arith)
-  words_more (suc left) b call h n =
+  words_more zero b call h = absurd (omega arith)
+  words_more (suc left) b call h =
       let p : suc left - 1 ≡ left = omega arith in
-      rw (ne_eqb (word_size (drop at l)) 0 (λ z. n (omega arith)), word_is, behind_is, ← from_is, ← to_is, p)
-
-  module _ (left : ℕ) (b : Begun) (call : Span) (next : Begun) (some : 0 < left) (n : from ≡ to → ⊥) (next_is : next ≡ with_word b (take (to - from) (drop from l))) where
-    pub words_wrong : 0 < next.wrong → with_words left b call at (drop at l) ≡ faulty next.wrong from to
-    words_wrong h = rw (words_more left b call some n, sym next_is, lt-ltb 0 next.wrong h)
-
-    pub words_goes : next.wrong ≤ 0 → with_words left b call at (drop at l) ≡ with_words (left - 1) next call to (drop to l)
-    words_goes h = rw (words_more left b call some n, sym next_is, le-ltb 0 next.wrong h)
+      rw ((some_size at (drop at l) w e).0, taken_is, left_is, to_is, begins_is, p)
 
   -- a list of names
-  pub names_none : (left : ℕ) (w : List ℕ) → 0 < left → from ≡ to → place_in left (drop at l) w ≡ 0
+  pub names_here : (left : ℕ) (name : List ℕ) → 0 < left → same_bytes name (slice_range l w.from w.to) ≡ true → place_in left (drop at l) name ≡ 0
   unfolding place_in
-  names_none zero w h e = absurd (omega arith)
-  names_none (suc left) w h e = rw (eq-eqb (word_size (drop at l)) 0 (omega arith))
+  names_here zero name h s = absurd (omega arith)
+  names_here (suc left) name h s = rw ((some_size at (drop at l) w e).0, taken_is, s)
 
-  pub names_here : (left : ℕ) (w : List ℕ) → 0 < left → (from ≡ to → ⊥) → same_bytes w (take (to - from) (drop from l)) ≡ true → place_in left (drop at l) w ≡ 0
+  pub names_more : (left : ℕ) (name : List ℕ) → 0 < left → same_bytes name (slice_range l w.from w.to) ≡ false
+      → place_in left (drop at l) name ≡ place_in (left - 1) (drop w.to l) name + 1
   unfolding place_in
-  names_here zero w h n e = absurd (omega arith)
-  names_here (suc left) w h n e = rw (ne_eqb (word_size (drop at l)) 0 (λ z. n (omega arith)), word_is, e)
-
-  pub names_more : (left : ℕ) (w : List ℕ) → 0 < left → (from ≡ to → ⊥) → same_bytes w (take (to - from) (drop from l)) ≡ false
-      → place_in left (drop at l) w ≡ place_in (left - 1) (drop to l) w + 1
-  unfolding place_in
-  names_more zero w h n e = absurd (omega arith)
-  names_more (suc left) w h n e =
+  names_more zero name h s = absurd (omega arith)
+  names_more (suc left) name h s =
       let p : suc left - 1 ≡ left = omega arith in
-      rw (ne_eqb (word_size (drop at l)) 0 (λ z. n (omega arith)), word_is, e, behind_is, p) (sym (add-one (place_in left (drop to l) w)))
+      rw ((some_size at (drop at l) w e).0, taken_is, s, left_is, p) (sym (add-one (place_in left (drop w.to l) name)))
 
--- the first word of a line is no call, or it is one
-module _ (l : List ℕ) (from to call : ℕ) (from_is : from ≡ 0 + run_of true l) (to_is : to ≡ from + word_size l) (n : from ≡ to → ⊥) (call_is : call ≡ call_of (take (to - from) (drop from l))) where
-  called : call_of (word l) ≡ call
-  called = ap call_of (word_is l 0 from to from_is to_is) ∙ sym call_is
+pub names_none : (l : List ℕ) (at left : ℕ) (name : List ℕ) → next_word at (drop at l) ≡ None → place_in left (drop at l) name ≡ 0
+unfolding place_in
+names_none l at zero name e = refl
+names_none l at (suc left) name e = rw (none_size at (drop at l) e)
 
-  pub text_no_call : 10 < call → text_says l ≡ faulty 1 from to
+-- ---- the first word of a line
+pub text_none : (l : List ℕ) → next_word 0 l ≡ None → text_says l ≡ Ok None
+unfolding text_says
+text_none l e = rw (none_size 0 l e)
+
+module _ (l : List ℕ) (w : Span) (e : next_word 0 l ≡ Some w) where
+  called : call_of (word l) ≡ call_of (slice_range l w.from w.to)
+  called = ap call_of (taken_is l 0 w e)
+
+  pub text_no_call : 10 < call_of (slice_range l w.from w.to) → text_says l ≡ faulty Why.NoCall w
   unfolding text_says
-  text_no_call h =
-      rw (ne_eqb (word_size l) 0 (λ z. n (omega arith)), called, lt-ltb 10 call h)
-      (ap (λ k. faulty 1 k (k + word_size l)) (sym from_is) ∙ ap (λ k. faulty 1 from k) (sym to_is))
+  text_no_call h = rw ((some_size 0 l w e).0, called, lt-ltb 10 _ h) (ap (λ k. faulty Why.NoCall k) (some_size 0 l w e).1)
 
-  pub text_call : call ≤ 10 → text_says l ≡ with_words (length l) (begin call) (record { from = from; to = to }) to (drop to l)
+  pub text_call : call_of (slice_range l w.from w.to) ≤ 10
+      → text_says l ≡ and_then (with_words (length l) (begin (call_of (slice_range l w.from w.to))) w w.to (drop w.to l)) (λ r. Ok (Some r))
   unfolding text_says
   text_call h =
-      rw (ne_eqb (word_size l) 0 (λ z. n (omega arith)), called, le-ltb 10 call h)
-      (ap (λ k. with_words (length l) (begin call) (record { from = k; to = k + word_size l }) (k + word_size l) (behind l)) (sym from_is)
-      ∙ ap (λ k. with_words (length l) (begin call) (record { from = from; to = k }) k (behind l)) (sym to_is)
-      ∙ ap (λ k. with_words (length l) (begin call) (record { from = from; to = to }) to k) (behind_is l 0 from to from_is to_is))
+      rw ((some_size 0 l w e).0, called, le-ltb 10 _ h, left_is l 0 w e, to_is l 0 w e, begins_is l 0 w e)
 
 pub words_end : (left : ℕ) (b : Begun) (call : Span) (at : ℕ) (text : List ℕ) → left ≤ 0 → with_words left b call at text ≡ finished b call
 unfolding with_words
@@ -202,54 +243,79 @@ unfolding place_in
 names_end zero names w h = refl
 names_end (suc left) names w h = absurd (omega arith)
 
+-- ---- a word behind a call
+module _ (b : Begun) (w : List ℕ) (at : ℕ) (at_is : at ≡ index_of 61 w) where
+  pub word_number : at ≡ length w → with_word b w ≡ and_then (number_of w) (λ v. with_value b 4 v)
+  unfolding with_word
+  word_number e = rw (eq-eqb (index_of 61 w) (length w) (sym at_is ∙ e))
+
+  module _ (n : at ≡ length w → ⊥) where
+    pub word_no_field : 6 < field_of (take at w) → Err Why.NoField ≡ with_word b w
+    unfolding with_word
+    word_no_field h = rw (ne_eqb (index_of 61 w) (length w) (λ e. n (at_is ∙ e)), ← at_is, lt-ltb 6 _ h)
+
+    pub word_field : (k : ℕ) → k ≤ 6 → k ≡ field_of (take at w)
+        → with_word b w ≡ and_then (number_of (slice_range w (at + 1) (length w))) (λ v. with_value b k v)
+    unfolding with_word
+    word_field k h e =
+        let f : field_of (take at w) ≤ 6 = omega arith in
+        rw (ne_eqb (index_of 61 w) (length w) (λ e. n (at_is ∙ e)), ← at_is, le-ltb 6 _ f, between_to_end w (at + 1) (length w) (omega arith), e)
+
 -- ---- values in their ranges
 -- a test of a value holds after another was stored, or this one
-stored : (test : ℕ → Bool) (l : List ℕ) (field v k : ℕ) → field < length l → (field ≡ k → test v ≡ true) → test (get_or l k 0) ≡ true → test (get_or (set l field v) k 0) ≡ true
-stored test l field v k h new old = elim (is (eqb k field)) [
-  | yes! e ↦ let s = eqb-true k field e in ap (λ i. test (get_or (set l field v) i 0)) s ∙ ap test (get_or-set_same l field v 0 h) ∙ new (sym s)
-  | no! e ↦ ap test (get_or-set_other l field k v 0 (eqb-false k field e)) ∙ old
+stored : (test : ℕ → Bool) (l : List Field) (k v j : ℕ) (a : Ask) → k < length l → (k ≡ j → test v ≡ true) → test (value_at l j) ≡ true → test (value_at (set l k (field v a)) j) ≡ true
+stored test l k v j a h new old = elim (is (eqb j k)) [
+  | yes! e ↦ let s = eqb-true j k e in ap (λ i. test (value_at (set l k (field v a)) i)) s ∙ ap (λ (x : Field). test x.value) (get_or-set_same l k (field v a) (field 0 Ask.No) h) ∙ new (sym s)
+  | no! e ↦ ap (λ (x : Field). test x.value) (get_or-set_other l k j (field v a) (field 0 Ask.No) (eqb-false j k e)) ∙ old
 ]
 
 -- the parts of the test
-pub within_parts : (l : List ℕ) → within l ≡ true → (0 < get_or l 0 0) × (get_or l 0 0 ≤ 9) × (get_or l 2 0 ≤ 255) × (get_or l 3 0 ≤ 15) × (get_or l 4 0 ≤ 4294967295)
+pub within_parts : (l : List Field) → within l ≡ true → (0 < value_at l 0) × (value_at l 0 ≤ 9) × (value_at l 2 ≤ 255) × (value_at l 3 ≤ 15) × (value_at l 4 ≤ 4294967295)
 unfolding within
 within_parts l w =
-    let a = ltb 0 (get_or l 0 0) in
-    let b = leb (get_or l 0 0) 9 in
-    let c = leb (get_or l 2 0) 255 in
-    let d = leb (get_or l 3 0) 15 in
-    let e = leb (get_or l 4 0) 4294967295 in
+    let a = ltb 0 (value_at l 0) in
+    let b = leb (value_at l 0) 9 in
+    let c = leb (value_at l 2) 255 in
+    let d = leb (value_at l 3) 15 in
+    let e = leb (value_at l 4) 4294967295 in
     let w₁ = and_left (a && b && c && d) e w in
     let w₂ = and_left (a && b && c) d w₁ in
     let w₃ = and_left (a && b) c w₂ in
     (ltb-true _ _ (and_left a b w₃), leb-true _ _ (and_right a b w₃), leb-true _ _ (and_right (a && b) c w₂), leb-true _ _ (and_right (a && b && c) d w₁), leb-true _ _ (and_right (a && b && c && d) e w))
 
 -- a value is stored in the range of its field
-pub within_set : (l : List ℕ) (field v : ℕ) → length l ≡ 7 → field ≤ 6 → least field ≤ v → v ≤ most field → within l ≡ true → within (set l field v) ≡ true
+pub within_set : (l : List Field) (k v : ℕ) → length l ≡ 7 → k ≤ 6 → least k ≤ v → v ≤ most k → within l ≡ true → within (set l k (field v Ask.Was)) ≡ true
 unfolding within least most
-within_set l field v e h low high w =
+within_set l k v e h low high w =
     let p = within_parts l w in
-    let inside : field < length l = omega arith in
-    let ups : (k m : ℕ) → most k ≡ m → field ≡ k → v ≤ m = λ k m q f. subst (λ x. v ≤ x) (ap most f ∙ q) high in
+    let inside : k < length l = omega arith in
+    let ups : (j m : ℕ) → most j ≡ m → k ≡ j → v ≤ m = λ j m q f. subst (λ x. v ≤ x) (ap most f ∙ q) high in
     rw (
-      stored (λ x. ltb 0 x) l field v 0 inside (λ f. lt-ltb 0 v (subst (λ x. least x ≤ v) f low)) (lt-ltb _ _ p.0),
-      stored (λ x. leb x 9) l field v 0 inside (λ f. le-leb v 9 (ups 0 9 refl f)) (le-leb _ _ p.1),
-      stored (λ x. leb x 255) l field v 2 inside (λ f. le-leb v 255 (ups 2 255 refl f)) (le-leb _ _ p.2),
-      stored (λ x. leb x 15) l field v 3 inside (λ f. le-leb v 15 (ups 3 15 refl f)) (le-leb _ _ p.3),
-      stored (λ x. leb x 4294967295) l field v 4 inside (λ f. le-leb v 4294967295 (ups 4 4294967295 refl f)) (le-leb _ _ p.4),
+      stored (λ x. ltb 0 x) l k v 0 Ask.Was inside (λ f. lt-ltb 0 v (subst (λ x. least x ≤ v) f low)) (lt-ltb _ _ p.0),
+      stored (λ x. leb x 9) l k v 0 Ask.Was inside (λ f. le-leb v 9 (ups 0 9 refl f)) (le-leb _ _ p.1),
+      stored (λ x. leb x 255) l k v 2 Ask.Was inside (λ f. le-leb v 255 (ups 2 255 refl f)) (le-leb _ _ p.2),
+      stored (λ x. leb x 15) l k v 3 Ask.Was inside (λ f. le-leb v 15 (ups 3 15 refl f)) (le-leb _ _ p.3),
+      stored (λ x. leb x 4294967295) l k v 4 Ask.Was inside (λ f. le-leb v 4294967295 (ups 4 4294967295 refl f)) (le-leb _ _ p.4),
     )
 
-pub good_values : (l : List ℕ) → within l ≡ true → good (record_of l) ≡ true
+pub good_values : (l : List Field) → within l ≡ true → good (record_of l) ≡ true
 unfolding good record_of
 good_values l w =
     let p = within_parts l w in
     rw (lt-ltb _ _ p.0, le-leb _ _ p.1, le-leb _ _ p.3, le-leb _ _ p.4)
 
 -- a word that stands in a line stands in a longer one
-pub good_longer : (p : Parsed) (n m : ℕ) → n ≤ m → good_line n p ≡ true → good_line m p ≡ true
-good_longer (Parsed.Call r) n m h e = e
-good_longer Parsed.Nothing n m h e = refl
-good_longer (Parsed.Wrong fault) n m h e =
-    let a = and_left (leb fault.from fault.to) (leb fault.to n) e in
-    let b = leb-true fault.to n (and_right (leb fault.from fault.to) (leb fault.to n) e) in
-    rw (a, le-leb fault.to m (omega arith))
+pub in_longer : (f : Fault) (n m : ℕ) → n ≤ m → in_line n f ≡ true → in_line m f ≡ true
+in_longer f n m h e =
+    let a = and_left (leb f.word.from f.word.to) (leb f.word.to n) e in
+    let b = leb-true f.word.to n (and_right (leb f.word.from f.word.to) (leb f.word.to n) e) in
+    rw (a, le-leb f.word.to m (omega arith))
+
+pub call_longer : (p : Result Record Fault) (n m : ℕ) → n ≤ m → good_call n p ≡ true → good_call m p ≡ true
+call_longer (Ok r) n m h e = e
+call_longer (Err fault) n m h e = in_longer fault n m h e
+
+pub line_longer : (p : Result (Option Record) Fault) (n m : ℕ) → n ≤ m → good_line n p ≡ true → good_line m p ≡ true
+line_longer (Ok (Some r)) n m h e = e
+line_longer (Ok None) n m h e = refl
+line_longer (Err fault) n m h e = in_longer fault n m h e

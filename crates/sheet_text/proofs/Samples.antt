@@ -12,7 +12,9 @@ use Rattle.sheet_lines.specs.declared.Record.{Record}
 use Rattle.sheet_lines.specs.Text.{bytes_of, digits_from, decimal}
 use Rattle.sheet_uses.specs.Uses.{uses_key, uses_place, uses_allow, uses_number, uses, fits, is_code, only_used}
 use Rattle.sheet_show.specs.Form.{field_text, word_text, call_text, record_text, head_text, usual_allow, shown}
-use Rattle.sheet_text.specs.declared.Parsed.{Parsed}
+use Rattle.std.proofs.Common.{Option, Some, Result, Ok}
+use Rattle.sheet_text.specs.declared.Why.{Why}
+use Rattle.sheet_text.specs.declared.Fault.{Fault}
 use Rattle.sheet_text.specs.Parse.{is_blank, counts_as, run_of, same_bytes, place_in, number_from, number_of, field_of, least, most, plain_call, call_of, begin, with_value, with_word, record_of, faulty, finished, with_words, text_says, line_says}
 
 unfoldable pub call : ℕ → Bool → ℕ → ℕ → ℕ → ℕ → ℕ → Record
@@ -39,7 +41,7 @@ samples =
 unfoldable pub line_of : Record → List ℕ
 line_of r = take (length (shown r) - 1) (shown r)
 
-pub said_again : map (λ r. line_says (line_of r)) samples ≡ map (λ r. Parsed.Call r) samples
+pub said_again : map (λ r. line_says (line_of r)) samples ≡ map (λ r. Ok (Some r)) samples
 unfolding call samples line_of index_of bytes_of digits_from decimal uses_key uses_place uses_allow uses_number uses fits is_code only_used field_text word_text call_text record_text head_text usual_allow shown is_blank counts_as run_of same_bytes place_in number_from number_of field_of least most plain_call call_of begin with_value with_word record_of finished with_words text_says line_says
 said_again = refl
 
@@ -59,18 +61,21 @@ wrong_lines =
     ∷ "record file=3"
     ∷ []
 
+unfoldable pub wrong : Why → ℕ → ℕ → Result (Option Record) Fault
+wrong why from to = faulty why (record { from = from; to = to })
+
 pub told : map (λ w. line_says (bytes_of w)) wrong_lines
-    ≡ faulty 1 0 4
-    ∷ faulty 2 8 15
-    ∷ faulty 3 4 5
-    ∷ faulty 3 4 9
-    ∷ faulty 4 8 16
-    ∷ faulty 4 4 14
-    ∷ faulty 5 8 9
-    ∷ faulty 5 8 15
-    ∷ faulty 6 6 7
-    ∷ faulty 7 2 8
-    ∷ faulty 7 0 6
+    ≡ wrong Why.NoCall 0 4
+    ∷ wrong Why.NoField 8 15
+    ∷ wrong Why.NoNumber 4 5
+    ∷ wrong Why.NoNumber 4 9
+    ∷ wrong Why.Range 8 16
+    ∷ wrong Why.Range 4 14
+    ∷ wrong Why.Unused 8 9
+    ∷ wrong Why.Unused 8 15
+    ∷ wrong Why.Twice 6 7
+    ∷ wrong Why.Missing 2 8
+    ∷ wrong Why.Missing 0 6
     ∷ []
-unfolding wrong_lines index_of bytes_of uses_key uses_place uses_allow uses_number uses is_blank counts_as run_of same_bytes place_in number_from number_of field_of least most plain_call call_of begin with_value with_word record_of finished with_words text_says line_says
+unfolding wrong_lines wrong index_of bytes_of uses_key uses_place uses_allow uses_number uses is_blank counts_as run_of same_bytes place_in number_from number_of field_of least most plain_call call_of begin with_value with_word record_of finished with_words text_says line_says
 told = refl

@@ -2,39 +2,23 @@
 -- What a line of text says: its first word is the call, and each word behind it is `name=value`, or the call's number alone. `#` begins a comment.
 -- A call takes the fields that it uses, each at most once, and one that uses the number needs it; `record` takes every field, and needs the code.
 -- Where a line is wrong, the word that is wrong is told by its place in the line.
-use Rattle.std.specs.Prelude.{ℕ, zero, suc, ◌+◌, ◌-◌, ◌*◌, Bool, true, false, not, ◌&&◌, List, [], ◌∷◌, eqb, ltb, leb, length, take, drop, get_or, set, if◌then◌else◌}
-use Rattle.basics.specs.Try.{Try, ok, refuse}
+use Rattle.std.specs.Prelude.{ℕ, zero, suc, ◌+◌, ◌-◌, ◌*◌, Bool, true, false, not, ◌&&◌, List, [], ◌∷◌, Option, Some, None, Result, Ok, Err, eqb, ltb, leb, length, take, drop, get_or, set, if◌then◌else◌}
 use Rattle.sheet_text.specs.Find.{index_of}
 use Rattle.sheet_lines.specs.declared.Record.{Record}
 use Rattle.sheet_lines.specs.Text.{bytes_of}
 use Rattle.sheet_record.specs.Good.{good}
 use Rattle.sheet_uses.specs.Uses.{uses}
-use Rattle.sheet_text.specs.declared.Parsed.{Parsed}
+use Rattle.sheet_text.specs.declared.Why.{Why}
+use Rattle.sheet_text.specs.declared.Ask.{Ask}
+use Rattle.sheet_text.specs.declared.Field.{Field}
 use Rattle.sheet_text.specs.declared.Begun.{Begun}
 use Rattle.sheet_text.specs.declared.Span.{Span}
-use Rattle.sheet_text.specs.declared.Number.{Number}
+use Rattle.sheet_text.specs.declared.Fault.{Fault}
 
--- what can be wrong with a line
-abbrev pub NO_CALL : ℕ
-NO_CALL = 1
-
-abbrev pub NO_FIELD : ℕ
-NO_FIELD = 2
-
-abbrev pub NO_NUMBER : ℕ
-NO_NUMBER = 3
-
-abbrev pub RANGE : ℕ
-RANGE = 4
-
-abbrev pub UNUSED : ℕ
-UNUSED = 5
-
-abbrev pub TWICE : ℕ
-TWICE = 6
-
-abbrev pub MISSING : ℕ
-MISSING = 7
+-- goes on with what an answer holds
+abbrev pub and_then : {A B E : Type 0} → Result A E → (A → Result B E) → Result B E
+and_then (Ok a) go = go a
+and_then (Err e) go = Err e
 
 -- a space, a tab, a carriage return
 unfoldable pub is_blank : ℕ → Bool
@@ -69,6 +53,13 @@ word_from at text = at + run_of true text
 abbrev pub word_to : ℕ → List ℕ → ℕ
 word_to at text = word_from at text + word_size text
 
+abbrev pub span_at : ℕ → List ℕ → Span
+span_at at text = record { from = word_from at text; to = word_to at text }
+
+-- it, if there is one
+abbrev pub next_word : ℕ → List ℕ → Option Span
+next_word at text = if eqb (word_size text) 0 then None else Some (span_at at text)
+
 -- whether two words are the same
 unfoldable pub same_bytes : List ℕ → List ℕ → Bool
 same_bytes [] [] = true
@@ -88,21 +79,16 @@ abbrev pub word_place : List ℕ → List ℕ → ℕ
 word_place names w = place_in (length names) names w
 
 -- the number that digits say, behind the number n of those before them: at least one digit, and below 2^64
-unfoldable pub number_from : ℕ → List ℕ → Try ℕ
-number_from n [] = ok n
+unfoldable pub number_from : ℕ → List ℕ → Result ℕ Why
+number_from n [] = Ok n
 number_from n (b ∷ rest) =
-    if ltb b 48 then refuse NO_NUMBER else
-    if ltb 57 b then refuse NO_NUMBER else
-    if ltb 18446744073709551615 (n * 10 + (b - 48)) then refuse RANGE else
+    if ltb b 48 then Err Why.NoNumber else
+    if ltb 57 b then Err Why.NoNumber else
+    if ltb 18446744073709551615 (n * 10 + (b - 48)) then Err Why.Range else
     number_from (n * 10 + (b - 48)) rest
 
-unfoldable pub number_of : List ℕ → Try ℕ
-number_of digits = if eqb (length digits) 0 then refuse NO_NUMBER else number_from 0 digits
-
--- the code's answer
-abbrev pub number_try : Number → Try ℕ
-number_try (Number.Is n) = ok n
-number_try (Number.Wrong why) = refuse why
+unfoldable pub number_of : List ℕ → Result ℕ Why
+number_of digits = if eqb (length digits) 0 then Err Why.NoNumber else number_from 0 digits
 
 -- ---- the fields, in the order of document 01: 0 code, 1 allow, 2 kind, 3 place, 4 number, 5 file, 6 index; `slot` is another name of the number
 abbrev pub field_names : List ℕ
@@ -124,26 +110,27 @@ most field =
     if eqb field 4 then 4294967295 else
     18446744073709551615
 
--- what a line asks of a field: it may not be named, it may, it must, it was
-abbrev pub MAY : ℕ
-MAY = 1
+abbrev pub ask : Bool → Ask → Ask
+ask used what = if used then what else Ask.No
 
-abbrev pub MUST : ℕ
-MUST = 2
+abbrev pub field : ℕ → Ask → Field
+field value ask = record { value = value; ask = ask }
 
-abbrev pub WAS : ℕ
-WAS = 3
+-- a field by its place
+abbrev pub field_at : List Field → ℕ → Field
+field_at fields k = get_or fields k (field 0 Ask.No)
 
-abbrev pub ask : Bool → ℕ → ℕ
-ask used what = if used then what else 0
+abbrev pub value_at : List Field → ℕ → ℕ
+value_at fields k = (field_at fields k).value
+
+abbrev pub ask_at : List Field → ℕ → Ask
+ask_at fields k = (field_at fields k).ask
 
 -- a call before its fields are read: what it asks of each, and the values that count where a line does not name them. Of a pin its word says allow
 unfoldable pub plain_call : ℕ → ℕ → Begun
 plain_call code allow = record {
-  values = code ∷ allow ∷ 0 ∷ 0 ∷ 0 ∷ 0 ∷ 0 ∷ [];
-  asks = 0 ∷ ask (eqb code 2) MAY ∷ ask (uses code 5) MAY ∷ ask (uses code 3) MAY
-      ∷ ask (uses code 4) MUST ∷ ask (uses code 5) MAY ∷ ask (uses code 5) MAY ∷ [];
-  wrong = 0;
+  fields = field code Ask.No ∷ field allow (ask (eqb code 2) Ask.May) ∷ field 0 (ask (uses code 5) Ask.May) ∷ field 0 (ask (uses code 3) Ask.May)
+      ∷ field 0 (ask (uses code 4) Ask.Must) ∷ field 0 (ask (uses code 5) Ask.May) ∷ field 0 (ask (uses code 5) Ask.May) ∷ [];
 }
 
 -- the calls, in the order of their codes from 1; `unpin` is call 7 too, with allow 0; `record` names its code
@@ -157,85 +144,95 @@ call_of w = word_place call_names w
 unfoldable pub begin : ℕ → Begun
 begin call =
     if eqb call 10 then
-    record { values = 1 ∷ 0 ∷ 0 ∷ 0 ∷ 0 ∷ 0 ∷ 0 ∷ []; asks = MUST ∷ MAY ∷ MAY ∷ MAY ∷ MAY ∷ MAY ∷ MAY ∷ []; wrong = 0 } else
+    record { fields = field 1 Ask.Must ∷ field 0 Ask.May ∷ field 0 Ask.May ∷ field 0 Ask.May ∷ field 0 Ask.May ∷ field 0 Ask.May ∷ field 0 Ask.May ∷ [] } else
     if eqb call 9 then plain_call 7 0 else
     if eqb call 1 then plain_call 2 1 else
     if eqb call 6 then plain_call 7 1 else
     plain_call (call + 1) 0
 
 -- ---- the words behind a call
-abbrev pub stop : Begun → ℕ → Begun
-stop b why = record { values = b.values; asks = b.asks; wrong = why }
+-- a field that may be named goes on
+abbrev pub named : Ask → Result Begun Why → Result Begun Why
+named Ask.No go = Err Why.Unused
+named Ask.May go = go
+named Ask.Must go = go
+named Ask.Was go = Err Why.Twice
 
 -- a call with a field
-unfoldable pub with_value : Begun → ℕ → ℕ → Begun
-with_value b field v =
-    if eqb (get_or b.asks field 0) 0 then stop b UNUSED else
-    if eqb (get_or b.asks field 0) WAS then stop b TWICE else
-    if ltb v (least field) then stop b RANGE else
-    if ltb (most field) v then stop b RANGE else
-    record { values = set b.values field v; asks = set b.asks field WAS; wrong = 0 }
-
--- goes on with a number
-abbrev pub valued : Begun → Try ℕ → (ℕ → Begun) → Begun
-valued b (ok v) go = go v
-valued b (refuse why) go = stop b why
+unfoldable pub with_value : Begun → ℕ → ℕ → Result Begun Why
+with_value b k v = named (ask_at b.fields k) (
+    if ltb v (least k) then Err Why.Range else
+    if ltb (most k) v then Err Why.Range else
+    Ok (record { fields = set b.fields k (field v Ask.Was) }))
 
 -- with a word: the number, or what stands before and behind `=`
-unfoldable pub with_word : Begun → List ℕ → Begun
+unfoldable pub with_word : Begun → List ℕ → Result Begun Why
 with_word b w =
-    if eqb (index_of 61 w) (length w) then valued b (number_of w) (λ v. with_value b 4 v) else
-    if ltb 6 (field_of (take (index_of 61 w) w)) then stop b NO_FIELD else
-    valued b (number_of (drop (index_of 61 w + 1) w)) (λ v. with_value b (field_of (take (index_of 61 w) w)) v)
+    if eqb (index_of 61 w) (length w) then and_then (number_of w) (λ v. with_value b 4 v) else
+    if ltb 6 (field_of (take (index_of 61 w) w)) then Err Why.NoField else
+    and_then (number_of (drop (index_of 61 w + 1) w)) (λ v. with_value b (field_of (take (index_of 61 w) w)) v)
 
 -- the record that the values are
-unfoldable pub record_of : List ℕ → Record
-record_of values = record {
-  code = get_or values 0 0;
-  allow = eqb (get_or values 1 0) 1;
-  place = get_or values 3 0;
-  number = get_or values 4 0;
-  key = record { file = get_or values 5 0; kind = get_or values 2 0; index = get_or values 6 0 };
+unfoldable pub record_of : List Field → Record
+record_of fields = record {
+  code = value_at fields 0;
+  allow = eqb (value_at fields 1) 1;
+  place = value_at fields 3;
+  number = value_at fields 4;
+  key = record { file = value_at fields 5; kind = value_at fields 2; index = value_at fields 6 };
 }
 
-abbrev pub faulty : ℕ → ℕ → ℕ → Parsed
-faulty why from to = Parsed.Wrong (record { why = why; from = from; to = to })
+abbrev pub faulty : {A : Type 0} → Why → Span → Result A Fault
+faulty why word = Err (record { why = why; word = word })
+
+-- a field that must be named is named
+abbrev pub met : Ask → Span → Result Record Fault → Result Record Fault
+met Ask.No call go = go
+met Ask.May call go = go
+met Ask.Must call go = faulty Why.Missing call
+met Ask.Was call go = go
 
 -- a call with all its words: what it must name is named; its first word is told
-unfoldable pub finished : Begun → Span → Parsed
-finished b call =
-    if eqb (get_or b.asks 0 0) MUST then faulty MISSING call.from call.to else
-    if eqb (get_or b.asks 4 0) MUST then faulty MISSING call.from call.to else
-    Parsed.Call (record_of b.values)
+unfoldable pub finished : Begun → Span → Result Record Fault
+finished b call = met (ask_at b.fields 0) call (met (ask_at b.fields 4) call (Ok (record_of b.fields)))
 
 -- goes on with a call, or tells the word that is wrong
-abbrev pub going : Begun → ℕ → ℕ → (Begun → Parsed) → Parsed
-going b from to go = if ltb 0 b.wrong then faulty b.wrong from to else go b
+abbrev pub going : Result Begun Why → Span → (Begun → Result Record Fault) → Result Record Fault
+going (Ok b) word go = go b
+going (Err why) word go = faulty why word
 
 -- a call with the words behind it, of which there are at most as many as steps are left: they begin at a place of the line
-unfoldable pub with_words : ℕ → Begun → Span → ℕ → List ℕ → Parsed
+unfoldable pub with_words : ℕ → Begun → Span → ℕ → List ℕ → Result Record Fault
 with_words zero b call at text = finished b call
 with_words (suc left) b call at text =
     if eqb (word_size text) 0 then finished b call else
-    going (with_word b (word text)) (word_from at text) (word_to at text) (λ next. with_words left next call (word_to at text) (behind text))
+    going (with_word b (word text)) (span_at at text) (λ next. with_words left next call (word_to at text) (behind text))
 
--- a line without its comment
-unfoldable pub text_says : List ℕ → Parsed
+-- a line without its comment: a call, nothing, or what is wrong
+unfoldable pub text_says : List ℕ → Result (Option Record) Fault
 text_says text =
-    if eqb (word_size text) 0 then Parsed.Nothing else
-    if ltb 10 (call_of (word text)) then faulty NO_CALL (word_from 0 text) (word_to 0 text) else
-    with_words (length text) (begin (call_of (word text))) (record { from = word_from 0 text; to = word_to 0 text }) (word_to 0 text) (behind text)
+    if eqb (word_size text) 0 then Ok None else
+    if ltb 10 (call_of (word text)) then faulty Why.NoCall (span_at 0 text) else
+    and_then (with_words (length text) (begin (call_of (word text))) (span_at 0 text) (word_to 0 text) (behind text)) (λ r. Ok (Some r))
 
-unfoldable pub line_says : List ℕ → Parsed
+unfoldable pub line_says : List ℕ → Result (Option Record) Fault
 line_says line = text_says (take (index_of 35 line) line)
 
 -- ---- what holds of every line
 -- the values are in their ranges
-unfoldable pub within : List ℕ → Bool
-within values = ltb 0 (get_or values 0 0) && leb (get_or values 0 0) 9 && leb (get_or values 2 0) 255 && leb (get_or values 3 0) 15 && leb (get_or values 4 0) 4294967295
+unfoldable pub within : List Field → Bool
+within fields = ltb 0 (value_at fields 0) && leb (value_at fields 0) 9 && leb (value_at fields 2) 255 && leb (value_at fields 3) 15 && leb (value_at fields 4) 4294967295
 
--- a line that says a call says one that a sheet holds, and a word that is wrong stands in the line
-abbrev pub good_line : ℕ → Parsed → Bool
-good_line size (Parsed.Call r) = good r
-good_line size Parsed.Nothing = true
-good_line size (Parsed.Wrong fault) = leb fault.from fault.to && leb fault.to size
+-- a word that is wrong stands in the line
+abbrev pub in_line : ℕ → Fault → Bool
+in_line size fault = leb fault.word.from fault.word.to && leb fault.word.to size
+
+-- a line that says a call says one that a sheet holds
+abbrev pub good_call : ℕ → Result Record Fault → Bool
+good_call size (Ok r) = good r
+good_call size (Err fault) = in_line size fault
+
+abbrev pub good_line : ℕ → Result (Option Record) Fault → Bool
+good_line size (Ok (Some r)) = good r
+good_line size (Ok None) = true
+good_line size (Err fault) = in_line size fault

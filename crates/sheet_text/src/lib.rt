@@ -2,105 +2,113 @@
 // A line of a run sheet's text form read (sheets/README.md): one call a line, with names for fields. Crate `sheet_show` has the way back.
 #![tactic(auto)]
 
-ghost use Rattle.std.specs.Prelude.{◌≡◌, true, ◌+◌, ◌≤◌, ◌<◌, length, drop, slice_range, if◌then◌else◌};
+ghost use Rattle.std.specs.Prelude.{◌≡◌, true, ◌+◌, ◌*◌, ◌^◌, SomeIff, ◌≤◌, ◌<◌, length, drop, MatchOption, IfSome, IfOk};
 ghost use Rattle.sheet_text.specs.Find.{index_of};
-ghost use Rattle.sheet_text.specs.Parse.{is_blank, counts_as, run_of, same_bytes, word_size, word_place, number_try, number_of, field_of, least, most};
-ghost use Rattle.sheet_text.specs.Parse.{plain_call, call_of, begin, stop, with_value, with_word, record_of, finished, with_words, text_says};
-ghost use Rattle.sheet_text.specs.Parse.{line_says, within, good_line};
+ghost use Rattle.sheet_text.specs.Parse.{is_blank, counts_as, run_of, next_word, word_place, number_of, field_of, least, most};
+ghost use Rattle.sheet_text.specs.Parse.{ask, plain_call, call_of, begin, with_value, with_word, record_of, finished, with_words, text_says};
+ghost use Rattle.sheet_text.specs.Parse.{line_says, within, good_call, good_line};
 
-use check::same;
 use key::CacheKey;
 use sheet_lines::Record;
 use sheet_uses::uses;
+use std::fmt;
 
-// What is wrong with a line, and the word that is wrong: from its first byte to behind its last.
-#[derive(Clone, Copy)]
-pub struct Fault {
-    pub why: u8,
+// What can be wrong with a line.
+#[derive(Clone, Copy, Debug, PartialEq, Eq)]
+pub enum Why {
+    NoCall,
+    NoField,
+    // No number where one has to be.
+    NoNumber,
+    Range,
+    // A field that the call does not use.
+    Unused,
+    // A field named twice.
+    Twice,
+    // The call's number, or the code of a `record`.
+    Missing,
+}
+
+impl fmt::Display for Why {
+    fn fmt<W: fmt::Write>(&self, f: &mut fmt::Formatter<W>) -> fmt::Result {
+        f.write_str(match self {
+            Why::NoCall => "no such call",
+            Why::NoField => "no such field",
+            Why::NoNumber => "not a number",
+            Why::Range => "number out of range",
+            Why::Unused => "not used by this call",
+            Why::Twice => "given twice",
+            Why::Missing => "number missing",
+        })
+    }
+}
+
+// A word of a text: from its first byte to behind its last.
+#[derive(Clone, Copy, Debug, PartialEq, Eq)]
+pub struct Span {
     pub from: usize,
     pub to: usize,
 }
 
-// What a line of text says: a call, nothing (an empty line, or only a comment), or what is wrong with it.
-#[derive(Clone, Copy)]
-pub enum Parsed {
-    Call(Record),
-    Nothing,
-    Wrong(Fault),
+// What is wrong with a line, and the word that is wrong.
+#[derive(Clone, Copy, Debug, PartialEq, Eq)]
+pub struct Fault {
+    pub why: Why,
+    pub word: Span,
 }
 
-// What can be wrong with a line: no such call, no such field, no number where one has to be, a number out of range, a field that the call does not
-// use, a field named twice, the call's number (or the code of a `record`) missing.
-pub const NO_CALL: u8 = 1;
+// What a line asks of a field: it may not be named, or it may, it must, it was.
+#[derive(Clone, Copy)]
+enum Ask {
+    No,
+    May,
+    Must,
+    Was,
+}
 
-pub const NO_FIELD: u8 = 2;
+// A field's value, and what the line asks of it.
+#[derive(Clone, Copy)]
+struct Field {
+    value: u64,
+    ask: Ask,
+}
 
-pub const NO_NUMBER: u8 = 3;
+// A call with the fields read so far, as document 01 orders them.
+#[derive(Clone, Copy)]
+struct Begun {
+    fields: [Field; 7],
+}
 
-pub const RANGE: u8 = 4;
-
-pub const UNUSED: u8 = 5;
-
-pub const TWICE: u8 = 6;
-
-pub const MISSING: u8 = 7;
-
-// The fields, as document 01 orders them: 0 code, 1 allow, 2 kind, 3 place, 4 number, 5 file, 6 index.
+// The places of the fields stay numbers: they index the fields, and `sheet_uses` has document 01's numbers.
 const CODE: usize = 0;
+
+const ALLOW: usize = 1;
+
+const KIND: usize = 2;
+
+const PLACE: usize = 3;
 
 const NUMBER: usize = 4;
 
-// What a line asks of a field: 0 it may not be named, or it may, it must, it was.
-const MAY: u8 = 1;
+const FILE: usize = 5;
 
-const MUST: u8 = 2;
-
-const WAS: u8 = 3;
-
-// A word of a text: from its first byte to behind its last.
-#[derive(Clone, Copy)]
-struct Span {
-    from: usize,
-    to: usize,
-}
-
-// A number in a line.
-#[derive(Clone, Copy)]
-enum Number {
-    Is(u64),
-    Wrong(u8),
-}
-
-// A call with the fields read so far: their values, what the line asks of each, and what is wrong with the last word, or 0.
-#[derive(Clone, Copy)]
-struct Begun {
-    values: [u64; 7],
-    asks: [u8; 7],
-    wrong: u8,
-}
+const INDEX: usize = 6;
 
 // ---- words and numbers
 
+#[tactic(auto, using(basics::proofs::Tests::tests), unfolding(crate::specs::Parse::is_blank))]
 fn is_blank(byte: u8) -> bool
     ensures { result ≡ is_blank byte }
 {
-    if byte == b' ' {
-        return true;
-    }
-    if byte == b'\t' {
-        return true;
-    }
-    byte == b'\r'
+    matches!(byte, b' ' | b'\t' | b'\r')
 }
 
 // Whether a byte is blank (`blank` is true), or is not.
+#[tactic(auto, using(crate::proofs::Laws::counts_lem))]
 fn counts_as(blank: bool, byte: u8) -> bool
     ensures { result ≡ counts_as blank byte }
 {
-    if is_blank(byte) {
-        return blank;
-    }
-    !blank
+    is_blank(byte) == blank
 }
 
 // How many bytes in front are so.
@@ -108,377 +116,318 @@ fn run_of(blank: bool, text: &[u8]) -> usize
     ensures value { result ≡ run_of blank text.now }
     ensures upper_bound { result ≤ length text.now }
 {
-    let mut i: usize = 0;
-    while i < text.len() {
-        if !counts_as(blank, text[i]) {
-            return i;
-        }
-        i += 1;
-    }
-    i
+    text.iter()
+        .position(|byte| !counts_as(blank, *byte))
+        .unwrap_or(text.len())
 }
 
-// Where a byte first stands in a part of a text; the part's end where it does not.
-fn find(text: &[u8], from: usize, to: usize, byte: u8) -> usize
-    requires { (from ≤ to) × (to ≤ length text.now) }
-    ensures value { result ≡ from + index_of byte (slice_range text.now from to) }
-    ensures upper_bound { result ≤ to }
+// Where a byte first stands in a text; the text's length where it does not.
+fn find(text: &[u8], byte: u8) -> usize
+    ensures value { result ≡ index_of byte text.now }
+    ensures upper_bound { result ≤ length text.now }
 {
-    let mut i = from;
-    while i < to {
-        if text[i] == byte {
-            return i;
-        }
-        i += 1;
-    }
-    i
+    text.iter().position(|b| *b == byte).unwrap_or(text.len())
 }
 
-// Whether a word is this name.
-fn is(word: &[u8], name: &[u8]) -> bool
-    ensures { result ≡ same_bytes word.now name.now }
+// A number with one more digit behind it, if it has room in 64 bits.
+fn with_digit(n: u64, digit: u64) -> Option<u64>
+    ensures { SomeIff result (n * 10 + digit < 2 ^ 64) (n * 10 + digit) }
 {
-    same(word, name)
-}
-
-fn wide(byte: u8) -> u64
-    ensures value { result ≡ byte }
-    ensures upper_bound { result < 256 }
-{
-    byte as u64
+    n.checked_mul(10)?.checked_add(digit)
 }
 
 // The number that a word's digits say.
-fn number_of(word: &[u8]) -> Number
-    ensures { number_try result ≡ number_of word.now }
+fn number_of(word: &[u8]) -> Result<u64, Why>
+    ensures { result ≡ number_of word.now }
 {
-    if word.len() == 0 {
-        return Number::Wrong(NO_NUMBER);
+    if word.is_empty() {
+        return Err(Why::NoNumber);
     }
     let mut n: u64 = 0;
-    let mut i: usize = 0;
-    while i < word.len() {
-        let byte = wide(word[i]);
-        if byte < 48 {
-            return Number::Wrong(NO_NUMBER);
+    for byte in word {
+        if !byte.is_ascii_digit() {
+            return Err(Why::NoNumber);
         }
-        if 57 < byte {
-            return Number::Wrong(NO_NUMBER);
-        }
-        if basics::MAX / 10 < n {
-            return Number::Wrong(RANGE);
-        }
-        if basics::MAX - n * 10 < byte - 48 {
-            return Number::Wrong(RANGE);
-        }
-        n = n * 10 + (byte - 48);
-        i += 1;
+        let Some(more) = with_digit(n, u64::from(*byte - b'0')) else {
+            return Err(Why::Range);
+        };
+        n = more;
     }
-    Number::Is(n)
+    Ok(n)
 }
 
-// Where the next word of a text stands.
-fn next_word(text: &[u8], at: usize) -> Span
+// The next word of a text, if there is one.
+#[tactic(auto, using(crate::proofs::Laws::next_none, crate::proofs::Laws::next_some))]
+fn next_word(text: &[u8], at: usize) -> Option<Span>
     requires { at ≤ length text.now }
-    ensures from_value { result.from ≡ at + run_of true (drop at text.now) }
-    ensures to_value { result.to ≡ result.from + word_size (drop at text.now) }
-    ensures to_in_bounds { result.to ≤ length text.now }
+    ensures value { result ≡ next_word at (drop at text.now) }
+    ensures in_bounds { IfSome result (λ word. (at ≤ word.from) × (word.from < word.to) × (word.to ≤ length text.now)) }
 {
     let from = at + run_of(true, &text[at..]);
     let to = from + run_of(false, &text[from..]);
-    Span { from: from, to: to }
+    if from == to {
+        return None;
+    }
+    Some(Span { from, to })
 }
+
+// ---- fields
 
 // The place of a word in a list of names; how many there are where it is none of them.
 fn place_in(names: &[u8], word: &[u8]) -> usize
     ensures { result ≡ word_place names.now word.now }
 {
-    let mut before: usize = 0;
     let mut at: usize = 0;
-    let mut left = names.len();
-    while 0 < left {
-        let name = next_word(names, at);
-        let from = name.from;
-        let to = name.to;
-        if from == to {
-            return before;
+    // A turn passes a name, which has at least a byte.
+    for place in 0..names.len() {
+        let Some(name) = next_word(names, at) else {
+            return place;
+        };
+        if word == &names[name.from..name.to] {
+            return place;
         }
-        if is(word, &names[from..to]) {
-            return before;
-        }
-        before += 1;
-        at = to;
-        left -= 1;
+        at = name.to;
     }
-    before
+    names.len()
 }
 
-// ---- fields
-
-// The field of a name; `slot` is another name of the number. Above 6: no such field.
-fn field_of(name: &[u8]) -> usize
-    ensures { result ≡ field_of name.now }
+// The field of a name; `slot` is another name of the number.
+#[tactic(auto, using(basics::proofs::Tests::tests), unfolding(crate::specs::Parse::field_of, sheet_lines::specs::Text::bytes_of))]
+fn field_of(name: &[u8]) -> Option<usize>
+    ensures { MatchOption result (6 < field_of name.now) (λ field. (field ≤ 6) × (field ≡ field_of name.now)) }
 {
-    let place = place_in(b"code allow kind place number file index slot", name);
-    if place == 7 {
-        return NUMBER;
+    match place_in(b"code allow kind place number file index slot", name) {
+        7 => Some(NUMBER),
+        place if place < 7 => Some(place),
+        _ => None,
     }
-    place
 }
 
+#[tactic(auto, using(basics::proofs::Tests::tests), unfolding(crate::specs::Parse::least))]
 fn least(field: usize) -> u64
     ensures { result ≡ least field }
 {
-    if field == CODE {
-        return 1;
-    }
-    0
+    u64::from(field == CODE)
 }
 
+#[tactic(auto, using(basics::proofs::Tests::tests), unfolding(crate::specs::Parse::most))]
 fn most(field: usize) -> u64
     ensures { result ≡ most field }
 {
-    if field == CODE {
-        return 9;
+    match field {
+        CODE => 9,
+        ALLOW => 1,
+        KIND => 255,
+        PLACE => 15,
+        NUMBER => 0xffff_ffff,
+        _ => u64::MAX,
     }
-    if field == 1 {
-        return 1;
-    }
-    if field == 2 {
-        return 255;
-    }
-    if field == 3 {
-        return 15;
-    }
-    if field == NUMBER {
-        return 0xffff_ffff;
-    }
-    basics::MAX
 }
 
 // ---- calls
 
-// The call of a word, in the order of the codes from 1, then `unpin` and `record`. Above 10: no such call.
-fn call_of(word: &[u8]) -> usize
-    ensures { result ≡ call_of word.now }
+fn if_used(used: bool, what: Ask) -> Ask
+    ensures { result ≡ ask used what }
 {
-    place_in(
-        b"new access publish abort lookup remove pin resize reclaim unpin record",
-        word,
-    )
-}
-
-fn ask(used: bool, what: u8) -> u8
-    ensures { result ≡ (if used then what else 0) }
-{
-    if used {
-        return what;
-    }
-    0
+    if used { what } else { Ask::No }
 }
 
 // A call of which no field is named yet: it takes the fields that it uses, and needs the number that it uses. Of a pin its word says allow.
+#[tactic(auto, using(basics::proofs::Tests::tests), unfolding(crate::specs::Parse::plain_call, crate::specs::Parse::within))]
 fn plain(code: u8, allow: u64) -> Begun
     requires { (0 < code) × (code ≤ 9) }
     ensures value { result ≡ plain_call code allow }
-    ensures values_value { within result.values ≡ true }
+    ensures within { within result.fields ≡ true }
 {
-    let key = ask(uses(code, 5), MAY);
-    let place = ask(uses(code, 3), MAY);
-    let number = ask(uses(code, NUMBER), MUST);
+    let key = if_used(uses(code, FILE), Ask::May);
+    let place = if_used(uses(code, PLACE), Ask::May);
+    let number = if_used(uses(code, NUMBER), Ask::Must);
     Begun {
-        values: [code as u64, allow, 0, 0, 0, 0, 0],
-        asks: [0, ask(code == 2, MAY), key, place, number, key, key],
-        wrong: 0,
+        fields: [
+            Field {
+                value: u64::from(code),
+                ask: Ask::No,
+            },
+            Field {
+                value: allow,
+                ask: if_used(code == 2, Ask::May),
+            },
+            Field { value: 0, ask: key },
+            Field {
+                value: 0,
+                ask: place,
+            },
+            Field {
+                value: 0,
+                ask: number,
+            },
+            Field { value: 0, ask: key },
+            Field { value: 0, ask: key },
+        ],
     }
 }
 
-// An access allows a load where its line does not say; `pin` and `unpin` say allow; `record` takes every field and needs the code.
-fn begin(call: usize) -> Begun
-    requires { call ≤ 10 }
-    ensures value { result ≡ begin call }
-    ensures values_value { within result.values ≡ true }
+// A `record` takes every field and needs the code.
+#[tactic(auto, using(basics::proofs::Tests::tests), unfolding(crate::specs::Parse::begin, crate::specs::Parse::within))]
+fn any_call() -> Begun
+    ensures value { result ≡ begin 10 }
+    ensures within { within result.fields ≡ true }
 {
-    if call == 10 {
-        return Begun {
-            values: [1, 0, 0, 0, 0, 0, 0],
-            asks: [MUST, MAY, MAY, MAY, MAY, MAY, MAY],
-            wrong: 0,
-        };
+    let may = Field {
+        value: 0,
+        ask: Ask::May,
+    };
+    let code = Field {
+        value: 1,
+        ask: Ask::Must,
+    };
+    Begun {
+        fields: [code, may, may, may, may, may, may],
     }
-    if call == 9 {
-        return plain(7, 0);
+}
+
+// The call of a word, in the order of the codes from 1, then `unpin` and `record`.
+#[tactic(auto, using(basics::proofs::Tests::tests), unfolding(crate::specs::Parse::begin, crate::specs::Parse::call_of, sheet_lines::specs::Text::bytes_of))]
+fn begin(word: &[u8]) -> Option<Begun>
+    ensures value { MatchOption result (10 < call_of word.now) (λ begun. (call_of word.now ≤ 10) × (begun ≡ begin (call_of word.now))) }
+    ensures within { IfSome result (λ begun. within begun.fields ≡ true) }
+{
+    let call = place_in(
+        b"new access publish abort lookup remove pin resize reclaim unpin record",
+        word,
+    );
+    match call {
+        // An access allows a load where its line does not say.
+        1 => Some(plain(2, 1)),
+        // `pin` and `unpin` say allow.
+        6 => Some(plain(7, 1)),
+        9 => Some(plain(7, 0)),
+        10 => Some(any_call()),
+        0..=8 => Some(plain(call as u8 + 1, 0)),
+        _ => None,
     }
-    if call == 1 {
-        return plain(2, 1);
-    }
-    if call == 6 {
-        return plain(7, 1);
-    }
-    plain((call + 1) as u8, 0)
 }
 
 // ---- the words behind a call
 
-fn stop(begun: Begun, why: u8) -> Begun
-    ensures { result ≡ stop begun why }
-{
-    let mut r = begun;
-    r.wrong = why;
-    r
-}
-
 // A call with a field.
-fn with_value(begun: Begun, field: usize, value: u64) -> Begun
-    requires { (field ≤ 6) × (within begun.values ≡ true) }
+#[tactic(auto, using(crate::proofs::Laws::within_set, basics::proofs::Tests::tests), unfolding(crate::specs::Parse::with_value))]
+fn with_value(mut begun: Begun, field: usize, value: u64) -> Result<Begun, Why>
+    requires { (field ≤ 6) × (within begun.fields ≡ true) }
     ensures value { result ≡ with_value begun field value }
-    ensures values_value { within result.values ≡ true }
+    ensures within { IfOk result (λ next. within next.fields ≡ true) }
 {
-    let mut values = begun.values;
-    let mut asks = begun.asks;
-    if asks[field] == 0 {
-        return stop(begun, UNUSED);
+    match begun.fields[field].ask {
+        Ask::No => return Err(Why::Unused),
+        Ask::Was => return Err(Why::Twice),
+        Ask::May | Ask::Must => {}
     }
-    if asks[field] == WAS {
-        return stop(begun, TWICE);
+    if value < least(field) || most(field) < value {
+        return Err(Why::Range);
     }
-    if value < least(field) {
-        return stop(begun, RANGE);
-    }
-    if most(field) < value {
-        return stop(begun, RANGE);
-    }
-    values[field] = value;
-    asks[field] = WAS;
-    Begun {
-        values: values,
-        asks: asks,
-        wrong: 0,
-    }
+    begun.fields[field] = Field {
+        value,
+        ask: Ask::Was,
+    };
+    Ok(begun)
 }
 
 // With a word: `name=value`, or the number alone.
-fn with_word(begun: Begun, word: &[u8]) -> Begun
-    requires { within begun.values ≡ true }
+fn with_word(begun: Begun, word: &[u8]) -> Result<Begun, Why>
+    requires { within begun.fields ≡ true }
     ensures value { result ≡ with_word begun word.now }
-    ensures values_value { within result.values ≡ true }
+    ensures within { IfOk result (λ next. within next.fields ≡ true) }
 {
-    let at = find(word, 0, word.len(), b'=');
+    let at = find(word, b'=');
     if at == word.len() {
-        return match number_of(word) {
-            Number::Is(value) => with_value(begun, NUMBER, value),
-            Number::Wrong(why) => stop(begun, why),
-        };
+        return with_value(begun, NUMBER, number_of(word)?);
     }
-    let field = field_of(&word[..at]);
-    if 6 < field {
-        return stop(begun, NO_FIELD);
-    }
-    match number_of(&word[at + 1..]) {
-        Number::Is(value) => with_value(begun, field, value),
-        Number::Wrong(why) => stop(begun, why),
-    }
+    let Some(field) = field_of(&word[..at]) else {
+        return Err(Why::NoField);
+    };
+    with_value(begun, field, number_of(&word[at + 1..])?)
 }
 
-fn record_of(values: [u64; 7]) -> Record
-    requires { within values ≡ true }
-    ensures { result ≡ record_of values }
+#[tactic(auto, using(crate::proofs::Laws::within_parts), unfolding(crate::specs::Parse::record_of))]
+fn record_of(fields: [Field; 7]) -> Record
+    requires { within fields ≡ true }
+    ensures { result ≡ record_of fields }
 {
-    let key = CacheKey {
-        file: values[5],
-        kind: values[2] as u8,
-        index: values[6],
-    };
     Record {
-        code: values[0] as u8,
-        allow: values[1] == 1,
-        place: values[3] as usize,
-        number: values[4] as usize,
-        key: key,
+        code: fields[CODE].value as u8,
+        allow: fields[ALLOW].value == 1,
+        place: fields[PLACE].value as usize,
+        number: fields[NUMBER].value as usize,
+        key: CacheKey {
+            file: fields[FILE].value,
+            kind: fields[KIND].value as u8,
+            index: fields[INDEX].value,
+        },
     }
 }
 
 // A call with all its words.
-fn finished(begun: Begun, call: Span) -> Parsed
-    requires { (within begun.values ≡ true) × (call.from ≤ call.to) }
+#[tactic(auto, using(crate::proofs::Laws::good_values, basics::proofs::Tests::tests), unfolding(crate::specs::Parse::finished))]
+fn finished(begun: Begun, call: Span) -> Result<Record, Fault>
+    requires { (within begun.fields ≡ true) × (call.from ≤ call.to) }
     ensures value { result ≡ finished begun call }
-    ensures result_value { good_line call.to result ≡ true }
+    ensures good { good_call call.to result ≡ true }
 {
-    let values = begun.values;
-    let asks = begun.asks;
-    let missing = Fault {
-        why: MISSING,
-        from: call.from,
-        to: call.to,
-    };
-    if asks[CODE] == MUST {
-        return Parsed::Wrong(missing);
+    let fields = begun.fields;
+    if matches!(fields[CODE].ask, Ask::Must) || matches!(fields[NUMBER].ask, Ask::Must) {
+        return Err(Fault {
+            why: Why::Missing,
+            word: call,
+        });
     }
-    if asks[NUMBER] == MUST {
-        return Parsed::Wrong(missing);
-    }
-    Parsed::Call(record_of(values))
+    Ok(record_of(fields))
 }
 
 // A call with the words behind it, which begin at a place of the text.
-fn with_words(begun: Begun, call: Span, text: &[u8], start: usize) -> Parsed
-    requires values_value { (within begun.values ≡ true) × (call.from ≤ call.to) × (call.to ≤ length text.now) }
+fn with_words(begun: Begun, call: Span, text: &[u8], start: usize) -> Result<Record, Fault>
+    requires within { (within begun.fields ≡ true) × (call.from ≤ call.to) × (call.to ≤ length text.now) }
     requires start_in_bounds { start ≤ length text.now }
     ensures value { result ≡ with_words (length text.now) begun call start (drop start text.now) }
-    ensures result_value { good_line (length text.now) result ≡ true }
+    ensures good { good_call (length text.now) result ≡ true }
 {
     let mut so_far = begun;
     let mut at = start;
-    let mut left = text.len();
-    while 0 < left {
-        let word = next_word(text, at);
-        let from = word.from;
-        let to = word.to;
-        if from == to {
+    // A turn takes a word, which has at least a byte.
+    for _turn in 0..text.len() {
+        let Some(word) = next_word(text, at) else {
             return finished(so_far, call);
+        };
+        match with_word(so_far, &text[word.from..word.to]) {
+            Ok(next) => so_far = next,
+            Err(why) => return Err(Fault { why, word }),
         }
-        let next = with_word(so_far, &text[from..to]);
-        if 0 < next.wrong {
-            return Parsed::Wrong(Fault {
-                why: next.wrong,
-                from: from,
-                to: to,
-            });
-        }
-        so_far = next;
-        at = to;
-        left -= 1;
+        at = word.to;
     }
     finished(so_far, call)
 }
 
 // What a line says, without its comment.
-fn text_says(text: &[u8]) -> Parsed
+fn text_says(text: &[u8]) -> Result<Option<Record>, Fault>
     ensures value { result ≡ text_says text.now }
-    ensures result_value { good_line (length text.now) result ≡ true }
+    ensures good { good_line (length text.now) result ≡ true }
 {
-    let word = next_word(text, 0);
-    let from = word.from;
-    let to = word.to;
-    if from == to {
-        return Parsed::Nothing;
-    }
-    let call = call_of(&text[from..to]);
-    if 10 < call {
-        return Parsed::Wrong(Fault {
-            why: NO_CALL,
-            from: from,
-            to: to,
+    let Some(call) = next_word(text, 0) else {
+        return Ok(None);
+    };
+    let Some(begun) = begin(&text[call.from..call.to]) else {
+        return Err(Fault {
+            why: Why::NoCall,
+            word: call,
         });
-    }
-    with_words(begin(call), word, text, to)
+    };
+    Ok(Some(with_words(begun, call, text, call.to)?))
 }
 
-// What a line says, which is handed over without its end.
-pub fn parse_line(line: &[u8]) -> Parsed
+// What a line says, which is handed over without its end: a call, nothing (an empty line, or only a comment), or what is wrong with it.
+pub fn parse_line(line: &[u8]) -> Result<Option<Record>, Fault>
     ensures value { result ≡ line_says line.now }
-    ensures result_value { good_line (length line.now) result ≡ true }
+    ensures good { good_line (length line.now) result ≡ true }
 {
-    let end = find(line, 0, line.len(), b'#');
+    let end = find(line, b'#');
     text_says(&line[..end])
 }

@@ -1,24 +1,16 @@
 -- SPDX-License-Identifier: Apache-2.0
 -- `sheet_text::find` meets its contract. Assumes nothing.
-use native.Mathlib.Omega.{arith}
-use Rattle.std.proofs.Common.{refl}
-use Rattle.sheet_text.proofs.Laws.{find_here, find_goes, find_ends}
+use Rattle.std.proofs.Common.{◌≡◌, rules}
+use Rattle.std.specs.List.{position}
+use borrow.Author.Tests.{tests}
+use lib.Dec.{eqb}
+use Rattle.std.proofs.lemmas.Iterator.{YieldsList-from_slice}
+use Rattle.std.proofs.lemmas.Iterator.Search.{position_from_yields_List}
+use Rattle.sheet_text.proofs.Laws.{find_is}
 use Rattle.sheet_text.proofs.find.Goals as goal
 
-pub loop-i-init : goal.loop-i-init
-loop-i-init c = (omega arith, refl)
-
-pub returns-then-text-i : goal.returns-then-text-i
-returns-then-text-i c =
-    let e = find_here c.args.byte c.args.text.now c.loop-i.i c.args.to (omega arith) (omega arith) c.if-text-i.true in
-    record { value = omega (arith, e, c.loop-i.invariant.1); upper_bound = omega arith }
-
-pub loop-i-preserved : goal.loop-i-preserved
-loop-i-preserved c =
-    let e = find_goes c.args.byte c.args.text.now c.loop-i.i c.args.to (omega arith) (omega arith) c.if-text-i.false in
-    (omega arith, omega (arith, e, c.loop-i.invariant.1))
-
-pub returns : goal.returns
-returns c =
-    let e = find_ends c.args.byte c.args.text.now c.loop-i.i c.args.to (omega arith) in
-    record { value = omega (arith, e, c.loop-i.invariant.1); upper_bound = omega arith }
+pub returns-clause-value : goal.returns-clause-value
+returns-clause-value c =
+    let e : c.position.result ≡ position (λ x. eqb x c.args.byte) c.args.text.now =
+    position_from_yields_List (λ x. eqb x c.args.byte) _ _ c.position.result c.position.ensures.ran (YieldsList-from_slice c.args.text.now cc) (λ x b q k. search (rules, tests)) in
+    rw (c.unwrap_or.ensures, e) (find_is c.args.byte c.args.text.now)

@@ -1,38 +1,39 @@
 -- SPDX-License-Identifier: Apache-2.0
--- `sheet_text::number_of` meets its contract. The invariant: what the digits that are left make of the number so far is the number of the word. Assumes nothing.
-use mathlib.Core.Path.{sym, ◌∙◌}
-use Rattle.sheet_text.proofs.Laws.{digit_low, digit_high, digit_large, digit_goes, digits_end}
+-- `sheet_text::number_of` meets its contract. Assumes nothing.
+use Prim.Native.Nat.{◌+◌, ◌*◌, ◌-◌, ◌≤◌, ◌<◌}
 use native.Mathlib.Omega.{arith}
-use Rattle.basics.proofs.Tests.{tests}
+use mathlib.Core.Path.{◌≡◌, sym, ◌∙◌}
+use lib.ListN.{get_or}
+use Rattle.std.proofs.Common.{rules}
+use Rattle.basics.proofs.Tests.{flag}
 use Rattle.sheet_text.specs.Parse.{number_of}
+use Rattle.sheet_text.proofs.Laws.{number_begins, digit_is, digit_none, digit_large, digit_goes, digits_end}
 use Rattle.sheet_text.proofs.number_of.Goals as goal
 
-pub returns-then-word-eq0 : goal.returns-then-word-eq0
+pub returns-then-is_empty : goal.returns-then-is_empty
 unfolding number_of
-returns-then-word-eq0 c = search tests
+returns-then-is_empty c = rw (flag c.is_empty.ensures c.if-is_empty.true)
 
-pub loop-i-init : goal.loop-i-init
-unfolding number_of
-loop-i-init c = (omega arith, search tests)
+pub loop-byte-init : goal.loop-byte-init
+loop-byte-init c = number_begins c.args.word.now (search rules)
 
-pub returns-then-byte-lt48 : goal.returns-then-byte-lt48
-returns-then-byte-lt48 c = sym (digit_low c.args.word.now c.loop-i.n c.loop-i.i (omega arith) (omega arith)) ∙ c.loop-i.invariant.1
+pub returns-then-not-is_ascii_digit : goal.returns-then-not-is_ascii_digit
+returns-then-not-is_ascii_digit c =
+    sym (digit_none c.args.word.now c.loop-byte.n c.loop-byte.byte-index (omega arith) (sym c.if-not-is_ascii_digit.ensures.value)) ∙ c.loop-byte.invariant
 
-pub returns-then-byte-gt57 : goal.returns-then-byte-gt57
-returns-then-byte-gt57 c = sym (digit_high c.args.word.now c.loop-i.n c.loop-i.i (omega arith) (omega arith) (omega arith)) ∙ c.loop-i.invariant.1
+pub returns-in_default : goal.returns-in_default
+returns-in_default c =
+    let b = get_or c.args.word.now c.loop-byte.byte-index 0 in
+    let d = digit_is b (sym c.if-not-is_ascii_digit.ensures.value) in
+    let over : 18446744073709551615 < c.loop-byte.n * 10 + (b - 48) = grind arith in
+    sym (digit_large c.args.word.now c.loop-byte.n c.loop-byte.byte-index (omega arith) d.0 d.1 over) ∙ c.loop-byte.invariant
 
-pub returns-then-n : goal.returns-then-n
-returns-then-n c = sym (digit_large c.args.word.now c.loop-i.n c.loop-i.i (omega arith) (omega arith) (omega arith) (omega arith)) ∙ c.loop-i.invariant.1
-
-pub returns-then-n-byte : goal.returns-then-n-byte
-returns-then-n-byte c = sym (digit_large c.args.word.now c.loop-i.n c.loop-i.i (omega arith) (omega arith) (omega arith) (omega arith)) ∙ c.loop-i.invariant.1
-
-pub loop-i-preserved : goal.loop-i-preserved
-loop-i-preserved c = (
-  omega arith,
-  rw c.wide-byte.ensures.value (sym (digit_goes c.args.word.now c.loop-i.n c.loop-i.i (omega arith) (omega arith) (omega arith) (omega arith))
-      ∙ c.loop-i.invariant.1),
-)
+pub loop-byte-preserved : goal.loop-byte-preserved
+loop-byte-preserved c =
+    let b = get_or c.args.word.now c.loop-byte.byte-index 0 in
+    let d = digit_is b (sym c.if-not-is_ascii_digit.ensures.value) in
+    let e : (c.in-Some.more ≡ c.loop-byte.n * 10 + (b - 48)) × (c.in-Some.more ≤ 18446744073709551615) = grind arith in
+    rw e.0 (sym (digit_goes c.args.word.now c.loop-byte.n c.loop-byte.byte-index (omega arith) d.0 d.1 (omega (arith, e.0, e.1))) ∙ c.loop-byte.invariant)
 
 pub returns : goal.returns
-returns c = sym (digits_end c.args.word.now c.loop-i.n c.loop-i.i (omega arith)) ∙ c.loop-i.invariant.1
+returns c = sym (digits_end c.args.word.now c.loop-byte.n c.loop-byte.byte-index (omega arith)) ∙ c.loop-byte.invariant

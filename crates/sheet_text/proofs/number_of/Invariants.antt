@@ -1,13 +1,8 @@
 -- SPDX-License-Identifier: Apache-2.0
--- `sheet_text::number_of` meets its contract. The invariant: what the digits that are left make of the number so far is the number of the word. Assumes nothing.
-use mathlib.Core.Path.{◌≡◌}
-use Prim.Native.Nat.{◌-◌, ◌≤◌}
-use lib.ListN.{length, drop}
+-- `sheet_text::number_of`: the digits behind the number so far say the whole number. Assumes nothing.
+use Rattle.std.proofs.Common.{◌≡◌, drop}
 use Rattle.sheet_text.specs.Parse.{number_from, number_of}
 use Rattle.sheet_text.proofs.number_of.Given as goal
 
-abbrev pub invariant-loop-i : goal.invariant-loop-i
-invariant-loop-i l = (l.i ≤ length l.word) × (number_from l.n (drop l.i l.word) ≡ number_of l.word)
-
-abbrev pub decreases-loop-i : goal.decreases-loop-i
-decreases-loop-i l = length l.word - l.i
+abbrev pub invariant-loop-byte : goal.invariant-loop-byte
+invariant-loop-byte l = number_from l.n (drop l.byte-index l.word) ≡ number_of l.word

@@ -1,78 +1,49 @@
 -- SPDX-License-Identifier: Apache-2.0
--- `sheet_text::with_words` meets its contract. The invariant: what the words that are left make of the call so far is what all of them make of the
--- call. Assumes nothing.
+-- `sheet_text::with_words` meets its contract. Assumes nothing.
+use Prim.Native.Nat.{◌+◌, ◌-◌}
 use native.Mathlib.Omega.{arith}
-use mathlib.Core.Path.{refl, sym, ◌∙◌}
+use mathlib.Core.Path.{◌≡◌, sym, ◌∙◌, ap}
 use lib.ListN.{length, drop}
-use borrow.Author.Tests.{le-leb}
-use Rattle.sheet_text.proofs.Laws.{words_none, words_wrong, words_goes, words_end, good_longer}
+use Rattle.sheet_text.specs.Parse.{going, with_words}
+use Rattle.sheet_text.proofs.Laws.{words_none, words_more, words_end}
 use Rattle.sheet_text.proofs.with_words.Goals as goal
 
-pub loop-left-init : goal.loop-left-init
-loop-left-init c = (c.requires.start_in_bounds, c.requires.values_value.0, refl)
-
-pub finished-requires : goal.finished-requires
-finished-requires c = (c.loop-left.invariant.1, c.requires.values_value.1)
-
-pub returns-then-from-to : goal.returns-then-from-to
-returns-then-from-to c =
+pub returns-in_default-clause-value : goal.returns-in_default-clause-value
+returns-in_default-clause-value c =
     let text = c.args.text.now in
-    let call = c.args.call in
-    let loop = c.loop-left in
-    let next_word = c.next_word-word in
-    record {
-      value = c.finished.ensures.value
-          ∙ sym (words_none text loop.at next_word.result.from next_word.result.to next_word.ensures.from_value next_word.ensures.to_value
-          loop.left loop.so_far call c.loop-left-test.true c.if-from-to.true)
-          ∙ loop.invariant.2;
-      result_value = good_longer c.finished.result call.to (length text) c.requires.values_value.2 c.finished.ensures.result_value;
-    }
+    let turn = c.loop-turn in
+    c.finished.ensures.value
+    ∙ sym (words_none text turn.at (length text - turn._turn) turn.so_far c.args.call (sym c.next_word.ensures.value ∙ c.in_default.is))
+    ∙ turn.invariant.2
 
-pub with_word-next-requires : goal.with_word-next-requires
-with_word-next-requires c = c.loop-left.invariant.1
-
-pub returns-then-next-gt0 : goal.returns-then-next-gt0
-returns-then-next-gt0 c =
+pub returns-in-Err-clause-value : goal.returns-in-Err-clause-value
+returns-in-Err-clause-value c =
     let text = c.args.text.now in
-    let loop = c.loop-left in
-    let next_word = c.next_word-word in
-    let with_word = c.with_word-next in
-    record {
-      value = sym (words_wrong text loop.at next_word.result.from next_word.result.to next_word.ensures.from_value next_word.ensures.to_value
-          loop.left loop.so_far c.args.call with_word.result
-          c.loop-left-test.true c.if-from-to.false
-          with_word.ensures.value c.if-next-gt0.true)
-          ∙ loop.invariant.2;
-      result_value = rw (
-        le-leb next_word.result.from next_word.result.to (omega (arith, next_word.ensures.to_value)),
-        le-leb next_word.result.to (length text) next_word.ensures.to_in_bounds,
-      );
-    }
+    let turn = c.loop-turn in
+    let word = c.in-Some.word in
+    ap (λ k. going k word (λ next. with_words (length text - turn._turn - 1) next c.args.call word.to (drop word.to text))) (sym c.in-Err.is ∙ c.with_word.ensures.value)
+    ∙ sym (words_more text turn.at word (sym c.next_word.ensures.value ∙ c.in-Some.is) (length text - turn._turn) turn.so_far c.args.call (omega arith))
+    ∙ turn.invariant.2
 
-pub loop-left-preserved : goal.loop-left-preserved
-loop-left-preserved c =
-    let loop = c.loop-left in
-    let next_word = c.next_word-word in
-    let with_word = c.with_word-next in (
-      next_word.ensures.to_in_bounds,
-      with_word.ensures.values_value,
-      sym (words_goes c.args.text.now loop.at next_word.result.from next_word.result.to
-          next_word.ensures.from_value next_word.ensures.to_value loop.left loop.so_far c.args.call
-          with_word.result c.loop-left-test.true c.if-from-to.false with_word.ensures.value c.if-next-gt0.false)
-          ∙ loop.invariant.2,
+pub loop-turn-preserved : goal.loop-turn-preserved
+loop-turn-preserved c =
+    let text = c.args.text.now in
+    let turn = c.loop-turn in
+    let word = c.in-Some.word in
+    let left : length text - (turn._turn + 1) ≡ length text - turn._turn - 1 = omega arith in (
+      c.in-Some.ensures.in_bounds.2,
+      c.in-Ok.ensures.within,
+      rw left (
+          ap (λ k. going k word (λ next. with_words (length text - turn._turn - 1) next c.args.call word.to (drop word.to text))) (sym c.in-Ok.is ∙ c.with_word.ensures.value)
+          ∙ sym (words_more text turn.at word (sym c.next_word.ensures.value ∙ c.in-Some.is) (length text - turn._turn) turn.so_far c.args.call (omega arith))
+          ∙ turn.invariant.2
+          ),
     )
 
-pub finished-requires-2 : goal.finished-requires-2
-finished-requires-2 c = (c.loop-left.invariant.1, c.requires.values_value.1)
-
-pub returns : goal.returns
-returns c =
-    let call = c.args.call in
+pub returns-clause-value : goal.returns-clause-value
+returns-clause-value c =
     let text = c.args.text.now in
-    let loop = c.loop-left in
-    record {
-      value = c.finished-2.ensures.value
-          ∙ sym (words_end loop.left loop.so_far call loop.at (drop loop.at text) c.loop-left-test.false)
-          ∙ loop.invariant.2;
-      result_value = good_longer c.finished-2.result call.to (length text) c.requires.values_value.2 c.finished-2.ensures.result_value;
-    }
+    let turn = c.loop-turn in
+    c.finished-2.ensures.value
+    ∙ sym (words_end (length text - turn._turn) turn.so_far c.args.call turn.at (drop turn.at text) (omega arith))
+    ∙ turn.invariant.2

@@ -1,70 +1,71 @@
 -- SPDX-License-Identifier: Apache-2.0
--- `sheetform::text_of` meets its contract. The invariant: what is written, and the lines of the records that are left behind it, are the lines of
--- all. Assumes nothing.
-use Rattle.std.proofs.Common.{◌+◌, ◌-◌, ◌++◌, length, take, drop, sym, refl, ap, ◌∙◌, append_assoc, append-nil, arith}
-use Rattle.sheet_show.specs.Form.{shown, listed_text}
+-- `sheetform::text_of` meets its contract. Assumes nothing.
+use Rattle.std.proofs.Common.{rules, ◌≡◌, ◌+◌, ◌-◌, ◌*◌, ◌/◌, ◌++◌, sym, ◌∙◌, ap, arith, length, drop, append_assoc, append-nil}
+use Rattle.arrayvec.specs.ArrayVec.{array_vec_len}
+use Rattle.std.proofs.lemmas.Slice.{between_to_end}
 use Rattle.sheet_lines.specs.Record.{read_record}
-use Rattle.sheet_show.proofs.Laws.{all_from, listed_end, listed_none, listed_bad, listed_more}
+use Rattle.sheet_show.specs.Form.{shown, listed_text}
+use Rattle.sheet_show.proofs.Laws.{listed_end, listed_none, listed_bad, listed_more}
 use Rattle.sheetform.proofs.text_of.Goals as goal
 
-pub loop-left-init : goal.loop-left-init
-loop-left-init c = (refl, omega arith, omega arith, omega arith, refl)
+pub loop-records-init : goal.loop-records-init
+loop-records-init g c =
+    let room = c.remaining_capacity-room.result / 200 in
+    let all : room - 0 ≡ room = omega arith in
+    (omega (arith, c.remaining_capacity-room.ensures), ap (λ k. c.args.out.now.items ++ listed_text k c.args.bytes.now) all)
 
 pub returns-then-bytes-at : goal.returns-then-bytes-at
-returns-then-bytes-at c =
-    let loop = c.loop-left in record {
-      out_after = sym (append-nil (take loop.written loop.out))
-          ∙ ap (λ l. take loop.written loop.out ++ l)
-          (sym (listed_none c.args.bytes.now loop.at loop.left c.if-bytes-at.true))
-          ∙ loop.invariant.4;
-      written_in_bounds = omega arith;
-      out_len_unchanged = loop.invariant.0;
-    }
+returns-then-bytes-at g c =
+    let bytes = c.args.bytes.now in
+    let turn = c.loop-records in
+    let room = c.remaining_capacity-room.result / 200 in
+    let e : (g.row.N - array_vec_len c.args.out.now) / 200 ≡ room = omega (arith, c.remaining_capacity-room.ensures) in
+    rw e (
+    sym (append-nil turn.out.items)
+    ∙ ap (λ l. turn.out.items ++ l) (sym (listed_none bytes (turn.records * 24) (room - turn.records) c.if-bytes-at.true))
+    ∙ turn.invariant.1
+    )
 
 pub returns-in_default : goal.returns-in_default
-returns-in_default c =
+returns-in_default g c =
     let bytes = c.args.bytes.now in
-    let loop = c.loop-left in
-    let e = sym (ap read_record (all_from bytes loop.at (length bytes) refl))
-    ∙ sym c.read_record.ensures.value
-    ∙ c.in_default.is in record {
-      out_after = sym (append-nil (take loop.written loop.out))
-          ∙ ap (λ l. take loop.written loop.out ++ l)
-          (sym (listed_bad bytes loop.at loop.left c.loop-left-test.true
-          c.if-bytes-at.false e))
-          ∙ loop.invariant.4;
-      written_in_bounds = omega arith;
-      out_len_unchanged = loop.invariant.0;
-    }
+    let turn = c.loop-records in
+    let room = c.remaining_capacity-room.result / 200 in
+    let e : (g.row.N - array_vec_len c.args.out.now) / 200 ≡ room = omega (arith, c.remaining_capacity-room.ensures) in
+    let bad = sym (ap read_record (between_to_end bytes (turn.records * 24) (length bytes) (omega arith))) ∙ sym c.read_record.ensures.value ∙ c.in_default.is in
+    rw e (
+    sym (append-nil turn.out.items)
+    ∙ ap (λ l. turn.out.items ++ l) (sym (listed_bad bytes (turn.records * 24) (room - turn.records) (omega arith) c.if-bytes-at.false bad))
+    ∙ turn.invariant.1
+    )
 
-pub loop-left-preserved : goal.loop-left-preserved
-loop-left-preserved c =
+pub loop-records-preserved : goal.loop-records-preserved
+loop-records-preserved g c =
     let bytes = c.args.bytes.now in
-    let loop = c.loop-left in
-    let show-record = c.show_record in
-    let store-text = c.store_text-written in
-    let e = sym (ap read_record (all_from bytes loop.at (length bytes) refl))
-    ∙ sym c.read_record.ensures.value
-    ∙ c.in-Whole.is in (
-      store-text.ensures.out_len_unchanged ∙ loop.invariant.0,
-      omega (arith, store-text.ensures.value, show-record.ensures.len_bound),
-      omega arith,
-      omega arith,
-      ap (λ l. l ++ listed_text (loop.left - 1) (drop (loop.at + 24) bytes))
-          (store-text.ensures.out_after ∙ ap (λ l. take loop.written loop.out ++ l) show-record.ensures.result_value)
-          ∙ append_assoc (take loop.written loop.out) (shown c.in-Whole.call) (listed_text (loop.left - 1) (drop (loop.at + 24) bytes))
-          ∙ ap (λ l. take loop.written loop.out ++ l) (sym (listed_more bytes loop.at loop.left c.in-Whole.call
-          c.loop-left-test.true
-          c.if-bytes-at.false e))
-          ∙ loop.invariant.4,
+    let turn = c.loop-records in
+    let room = c.remaining_capacity-room.result / 200 in
+    let call = c.in-Some.call in
+    let read = sym (ap read_record (between_to_end bytes (turn.records * 24) (length bytes) (omega arith))) ∙ sym c.read_record.ensures.value ∙ c.in-Some.is in
+    let put : c.try_extend_from_slice.new.self.items ≡ turn.out.items ++ c.show_record-text.result.items = search rules in
+    let left : room - (turn.records + 1) ≡ room - turn.records - 1 = omega arith in
+    let next : (turn.records + 1) * 24 ≡ turn.records * 24 + 24 = omega arith in
+    let size : array_vec_len c.try_extend_from_slice.new.self ≡ array_vec_len turn.out + array_vec_len c.show_record-text.result = search rules in (
+      omega (arith, size, c.show_record-text.ensures.len_bound, turn.invariant.0),
+      rw (left, next, put, c.show_record-text.ensures.result_value) (
+          append_assoc turn.out.items (shown call) (listed_text (room - turn.records - 1) (drop (turn.records * 24 + 24) bytes))
+          ∙ ap (λ l. turn.out.items ++ l) (sym (listed_more bytes (turn.records * 24) (room - turn.records) call (omega arith) c.if-bytes-at.false read))
+          ∙ turn.invariant.1
+          ),
     )
 
 pub returns : goal.returns
-returns c = record {
-  out_after = sym (append-nil (take c.loop-left.written c.loop-left.out))
-      ∙ ap (λ l. take c.loop-left.written c.loop-left.out ++ l) (sym
-      (listed_end c.args.bytes.now c.loop-left.at c.loop-left.left c.loop-left-test.false))
-      ∙ c.loop-left.invariant.4;
-  written_in_bounds = omega arith;
-  out_len_unchanged = c.loop-left.invariant.0;
-}
+returns g c =
+    let bytes = c.args.bytes.now in
+    let turn = c.loop-records in
+    let room = c.remaining_capacity-room.result / 200 in
+    let e : (g.row.N - array_vec_len c.args.out.now) / 200 ≡ room = omega (arith, c.remaining_capacity-room.ensures) in
+    rw e (
+    sym (append-nil turn.out.items)
+    ∙ ap (λ l. turn.out.items ++ l) (sym (listed_end bytes (turn.records * 24) (room - turn.records) (omega arith)))
+    ∙ turn.invariant.1
+    )

@@ -1,17 +1,11 @@
 -- SPDX-License-Identifier: Apache-2.0
--- `sheetform::text_of` meets its contract. The invariant: what is written, and the lines of the records that are left behind it, are the lines of
--- all. Assumes nothing.
-use Rattle.std.proofs.Common.{◌≡◌, ◌+◌, ◌*◌, ◌/◌, ◌≤◌, ◌++◌, length, take, drop}
+-- `sheetform::text_of`: what is written, with the text of the records behind those shown; each of these has room. Assumes nothing.
+use Rattle.std.proofs.Common.{◌≡◌, ◌+◌, ◌-◌, ◌≤◌, ◌++◌, ◌*◌, drop}
+use Rattle.arrayvec.specs.ArrayVec.{array_vec_len}
 use Rattle.sheet_show.specs.Form.{listed_text}
 use Rattle.sheetform.proofs.text_of.Given as goal
 
-abbrev pub invariant-loop-left : goal.invariant-loop-left
-invariant-loop-left l =
-    (length l.out ≡ length l.initial.out) ×
-    (l.written + 200 * l.left ≤ length l.initial.out) ×
-    (l.at + 24 * l.left ≡ 24 * (length l.initial.out / 200)) ×
-    (l.records + l.left ≡ length l.initial.out / 200) ×
-    (take l.written l.out ++ listed_text l.left (drop l.at l.bytes) ≡ listed_text (length l.initial.out / 200) l.bytes)
-
-abbrev pub decreases-loop-left : goal.decreases-loop-left
-decreases-loop-left l = l.left
+abbrev pub invariant-loop-records : goal.invariant-loop-records
+invariant-loop-records g l =
+    (array_vec_len l.out + 200 * (l.room - l.records) ≤ g.row.N)
+    × (l.out.items ++ listed_text (l.room - l.records) (drop (l.records * 24) l.bytes) ≡ l.initial.out.items ++ listed_text l.room l.bytes)

@@ -1,9 +1,0 @@
--- SPDX-License-Identifier: Apache-2.0
--- `sheetform::write_records` meets its contract. Assumes nothing.
-use Rattle.sheetform.proofs.write_records.Given as goal
-
-abbrev pub invariant-loop-blocks : goal.invariant-loop-blocks
-invariant-loop-blocks g l = Unit {0}
-
-abbrev pub decreases-loop-blocks : goal.decreases-loop-blocks
-decreases-loop-blocks g l = l.blocks
