@@ -5,7 +5,7 @@ use native.Mathlib.Omega.{arith}
 use native.Mathlib.Numerals.{add-one}
 use mathlib.Core.Path.{◌≡◌, sym, ◌∙◌}
 use mathlib.Core.List.{List, ◌++◌}
-use lib.ListN.{length, get_or, set, take, replicate, length-replicate, get_or-replicate}
+use lib.ListN.{length, get_or, set, take, replicate}
 use lib.Seq.{length-take-le, take_all, take-suc, append_snoc, set_at}
 use Rattle.basics.specs.Lists.{down}
 use Rattle.basics.proofs.Members.{down_length, down_at}
@@ -24,14 +24,6 @@ fill_turn places l i v h s e =
 -- after the last turn the whole list stands in front of the zeros
 pub fill_end : (places : ℕ) (l : List ℕ) (n : ℕ) → length l ≤ n → filled places l n ≡ l ++ replicate (places - n) 0
 fill_end places l n h = rw (take_all n l h)
-
--- the same number in the first n places
-pub same_turn : (places n i v : ℕ) → i < n → n ≤ places → set (filled places (replicate n v) i) i v ≡ filled places (replicate n v) (i + 1)
-same_turn places n i v h s =
-    fill_turn places (replicate n v) i v (rw length-replicate h) (rw length-replicate s) (sym (get_or-replicate n i v 0 h))
-
-pub same_end : (places n v : ℕ) → filled places (replicate n v) n ≡ replicate n v ++ replicate (places - n) 0
-same_end places n v = fill_end places (replicate n v) n (rw length-replicate (omega arith))
 
 -- n − 1, .., 1, 0 in the first n places
 pub down_turn : (places n i v : ℕ) → i < n → n ≤ places → v ≡ n - 1 - i → set (filled places (down n) i) i v ≡ filled places (down n) (i + 1)

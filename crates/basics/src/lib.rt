@@ -10,13 +10,13 @@ ghost use Rattle.basics.specs.Numbers.{NONE, more};
 // The Rust's `NONE`.
 pub const NONE: u16 = 65535;
 
-// `NONE` beside slots that are kept in a usize.
+// `NONE` beside slots that are kept in a usize: a constant has one type, and cannot be generic.
 pub const NO_SLOT: usize = 65535;
 
 // The greatest number of 64 bits.
 pub const MAX: u64 = u64::MAX;
 
-// The same beside counts of slots.
+// The same beside counts of slots, which are of the other type.
 pub const MAX_COUNT: usize = usize::MAX;
 
 // The most slots of a table.
