@@ -1,5 +1,5 @@
 -- SPDX-License-Identifier: Apache-2.0
--- A number of twice as many bytes, from two of them; ten numbers from each of them. Assumes nothing.
+-- A number from each of its bytes; ten numbers from each of them. Assumes nothing.
 use Prim.Native.Nat.{ℕ, ◌+◌, ◌*◌}
 use native.Mathlib.Omega.{arith}
 use mathlib.Core.Path.{◌≡◌}
@@ -9,20 +9,17 @@ use Rattle.cases.specs.Bytes.{over, byte_at, low, numbers_at}
 over_over : (at a b : ℕ) → over (over at a) b ≡ over at (a + b)
 over_over at a b = omega arith
 
-module _ (bytes : List ℕ) (at o x y : ℕ) where
-  pub low_two : o ≡ over at 1 → x ≡ byte_at bytes at → y ≡ byte_at bytes o → x + 256 * y ≡ low 2 bytes at
-  unfolding low
-  low_two p e g = rw (e, g, p) (omega arith)
-
-  pub low_four : o ≡ over at 2 → x ≡ low 2 bytes at → y ≡ low 2 bytes o → x + 65536 * y ≡ low 4 bytes at
-  unfolding low
-  low_four p e g = simp (e, g, p, over_over) (omega arith)
-
-  pub low_eight : o ≡ over at 4 → x ≡ low 4 bytes at → y ≡ low 4 bytes o → x + 4294967296 * y ≡ low 8 bytes at
-  unfolding low
-  low_eight p e g = simp (e, g, p, over_over) (omega arith)
-
 module _ (bytes : List ℕ) (at : ℕ) where
+  pub low_two : low 2 bytes at ≡ byte_at bytes at + 256 * byte_at bytes (over at 1)
+  unfolding low
+  low_two = omega arith
+
+  pub low_eight : low 8 bytes at
+      ≡ byte_at bytes at + 256 * (byte_at bytes (over at 1) + 256 * (byte_at bytes (over at 2) + 256 * (byte_at bytes (over at 3)
+      + 256 * (byte_at bytes (over at 4) + 256 * (byte_at bytes (over at 5) + 256 * (byte_at bytes (over at 6) + 256 * byte_at bytes (over at 7)))))))
+  unfolding low
+  low_eight = simp over_over (omega arith)
+
   pub number_on : {o x : ℕ} (k : ℕ) → o ≡ over at k → x ≡ low 8 bytes o → x ≡ low 8 bytes (over at k)
   number_on k p e = rw p at e
 

@@ -3,7 +3,7 @@
 // oracle/README.md has the forms. As in `picture_numbers`, what is written ends at a place within `out`.
 #![tactic(auto)]
 
-ghost use Rattle.std.specs.Prelude.{◌≡◌, ◌+◌, ◌≤◌, ◌<◌, min, length};
+ghost use Rattle.std.specs.Prelude.{◌≡◌, ◌+◌, ◌≤◌, min, length, IfOk};
 ghost use Rattle.cases.specs.Places.{Within};
 ghost use Rattle.cases.specs.Bytes.{FAR as farthest, byte_at, low, numbers_at, key_at, call_at};
 ghost use Rattle.picture.specs.Table.{count_numbers};
@@ -14,6 +14,7 @@ use index::Index;
 use key::CacheKey;
 use maintenance_resize::Maintenance;
 use state::{Access, CleanEntry, Counters, Found, LoadToken, Slot, State};
+use streams::Failed;
 
 // A call without the table that it is made on and without its pin bytes, whose number is `pins`.
 #[derive(Clone, Copy)]
@@ -40,24 +41,11 @@ pub struct Ran {
     pub at: usize,
 }
 
-// The bytes from `at` to `have` wait; a read failed.
+// The bytes from `at` to `have` wait.
 #[derive(Clone, Copy)]
 pub struct Waiting {
     pub at: usize,
     pub have: usize,
-    pub failed: bool,
-}
-
-#[derive(Clone, Copy)]
-struct Slots {
-    slots: [Slot; 256],
-    end: usize,
-}
-
-#[derive(Clone, Copy)]
-struct Entries {
-    entries: [Entry; 256],
-    end: usize,
 }
 
 // The bytes of a call.
@@ -79,77 +67,36 @@ pub fn over(at: usize, bytes: usize) -> usize
     ensures upper_bound { result ≤ 1048576 }
     ensures value { result ≡ min (at + bytes) farthest }
 {
-    if FAR < at {
-        return FAR;
-    }
-    if FAR - at < bytes {
-        return FAR;
-    }
-    at + bytes
+    at.saturating_add(bytes).min(FAR)
 }
 
 pub fn byte_at(bytes: &[u8], at: usize) -> u8
     ensures { result ≡ byte_at bytes.now at }
 {
-    if bytes.len() <= at {
-        return 0;
-    }
-    bytes[at]
+    bytes.get(at).copied().unwrap_or(0)
 }
 
-fn wide(byte: u8) -> u64
-    ensures upper_bound { result < 256 }
-    ensures value { result ≡ byte }
+#[tactic(auto, using(crate::proofs::Numbers::low_two))]
+fn low_2(bytes: &[u8], at: usize) -> u16
+    ensures { result ≡ low 2 bytes.now at }
 {
-    byte as u64
+    u16::from_le_bytes([byte_at(bytes, at), byte_at(bytes, over(at, 1))])
 }
 
-fn low_2(bytes: &[u8], at: usize) -> u64
-    ensures upper_bound { result < 65536 }
-    ensures value { result ≡ low 2 bytes.now at }
-{
-    let lower = wide(byte_at(bytes, at));
-    let upper = wide(byte_at(bytes, over(at, 1)));
-    lower + 256 * upper
-}
-
-fn low_4(bytes: &[u8], at: usize) -> u64
-    ensures upper_bound { result < 4294967296 }
-    ensures value { result ≡ low 4 bytes.now at }
-{
-    let lower = low_2(bytes, at);
-    let upper = low_2(bytes, over(at, 2));
-    lower + 65536 * upper
-}
-
+#[tactic(auto, using(crate::proofs::Numbers::low_eight))]
 pub fn low_8(bytes: &[u8], at: usize) -> u64
     ensures { result ≡ low 8 bytes.now at }
 {
-    let lower = low_4(bytes, at);
-    let upper = low_4(bytes, over(at, 4));
-    lower + 4294967296 * upper
-}
-
-// The first words of a list, as many as are counted, and the place behind them. A case does not tell what stands past them: the first place there and the last
-// hold 7, and so in the lists below, so that it is seen whether they stay.
-fn read_words(bytes: &[u8], from: usize, list: &mut [u16], count: usize) -> usize
-    ensures { result ≤ farthest }
-{
-    let mut at = over(from, 0);
-    let mut i: usize = 0;
-    let mut left = picture_numbers::least(count, list.len());
-    while 0 < left {
-        list[i] = low_2(bytes, at) as u16;
-        at = over(at, 2);
-        i += 1;
-        left -= 1;
-    }
-    if i < list.len() {
-        let last = list.len() - 1;
-        list[i] = 7;
-        list[last] = 7;
-    }
-    at
+    u64::from_le_bytes([
+        byte_at(bytes, at),
+        byte_at(bytes, over(at, 1)),
+        byte_at(bytes, over(at, 2)),
+        byte_at(bytes, over(at, 3)),
+        byte_at(bytes, over(at, 4)),
+        byte_at(bytes, over(at, 5)),
+        byte_at(bytes, over(at, 6)),
+        byte_at(bytes, over(at, 7)),
+    ])
 }
 
 fn read_key(bytes: &[u8], at: usize) -> CacheKey
@@ -162,79 +109,84 @@ fn read_key(bytes: &[u8], at: usize) -> CacheKey
     }
 }
 
-fn read_slots(bytes: &[u8], from: usize, count: usize) -> Slots
-    ensures { result.end ≤ farthest }
-{
-    let vacant = state::vacant_slot();
-    let mut slots: [Slot; 256] = [vacant; 256];
-    let mut at = over(from, 0);
-    let mut i: usize = 0;
-    let mut left = picture_numbers::least(count, 256);
-    while 0 < left {
-        let key = read_key(bytes, over(at, 1));
-        slots[i] = Slot {
-            kind: byte_at(bytes, at),
-            key: key,
-            generation: low_8(bytes, over(at, 18)),
-            last_access: low_8(bytes, over(at, 26)),
-        };
-        at = over(at, 34);
-        i += 1;
-        left -= 1;
-    }
-    if i < 256 {
-        let key = CacheKey {
-            file: 7,
-            kind: 7,
-            index: 7,
-        };
-        let behind = Slot {
-            kind: 7,
-            key: key,
-            generation: 7,
-            last_access: 7,
-        };
-        slots[i] = behind;
-        slots[255] = behind;
-    }
-    Slots {
-        slots: slots,
-        end: at,
+// What the lists of a table are made of: how many bytes one has in a case, and what is seen behind those that a case tells.
+trait Listed: Copy {
+    const BYTES: usize;
+
+    const BEHIND: Self;
+
+    fn read(bytes: &[u8], at: usize) -> Self;
+}
+
+impl Listed for u16 {
+    const BYTES: usize = 2;
+
+    const BEHIND: u16 = 7;
+
+    fn read(bytes: &[u8], at: usize) -> u16 {
+        low_2(bytes, at)
     }
 }
 
-fn read_entries(bytes: &[u8], from: usize, count: usize) -> Entries
-    ensures { result.end ≤ farthest }
-{
-    let none = Entry {
-        slot: 0,
-        last_access: 0,
+impl Listed for Entry {
+    const BYTES: usize = 10;
+
+    const BEHIND: Entry = Entry {
+        slot: 7,
+        last_access: 7,
     };
-    let mut entries: [Entry; 256] = [none; 256];
-    let mut at = over(from, 0);
-    let mut i: usize = 0;
-    let mut left = picture_numbers::least(count, 256);
-    while 0 < left {
-        entries[i] = Entry {
-            slot: low_2(bytes, at) as u16,
+
+    fn read(bytes: &[u8], at: usize) -> Entry {
+        Entry {
+            slot: low_2(bytes, at),
             last_access: low_8(bytes, over(at, 2)),
-        };
-        at = over(at, 10);
-        i += 1;
-        left -= 1;
+        }
     }
-    if i < 256 {
-        let behind = Entry {
-            slot: 7,
-            last_access: 7,
-        };
-        entries[i] = behind;
-        entries[255] = behind;
+}
+
+impl Listed for Slot {
+    const BYTES: usize = 34;
+
+    const BEHIND: Slot = Slot {
+        kind: 7,
+        key: CacheKey {
+            file: 7,
+            kind: 7,
+            index: 7,
+        },
+        generation: 7,
+        last_access: 7,
+    };
+
+    fn read(bytes: &[u8], at: usize) -> Slot {
+        Slot {
+            kind: byte_at(bytes, at),
+            key: read_key(bytes, over(at, 1)),
+            generation: low_8(bytes, over(at, 18)),
+            last_access: low_8(bytes, over(at, 26)),
+        }
     }
-    Entries {
-        entries: entries,
-        end: at,
+}
+
+// The first places of a list, as many as are counted, and the place behind them. A case does not tell what stands past them: the first place there and the
+// last are marked, so that it is seen whether they stay.
+fn read_list<T: Listed>(bytes: &[u8], from: usize, list: &mut [T], count: usize) -> usize
+    ensures { result ≤ farthest }
+{
+    let mut at = over(from, 0);
+    let places = count.min(list.len());
+    for place in &mut list[..places] {
+        *place = T::read(bytes, at);
+        at = over(at, T::BYTES);
     }
+    let behind = &mut list[places..];
+    if let Some(first) = behind.first_mut() {
+        *first = T::BEHIND;
+    }
+    if let Some(last) = behind.last_mut() {
+        *last = T::BEHIND;
+    }
+    at
 }
 
 pub fn read_table(bytes: &[u8], at: usize) -> Table
@@ -249,72 +201,71 @@ pub fn read_table(bytes: &[u8], at: usize) -> Table
         in_progress: low_8(bytes, over(at, 48)),
         capacity_busy: low_8(bytes, over(at, 56)),
     };
-    let records = read_slots(bytes, over(at, 80), capacity);
-    let a = records.end;
-    let mut heads: [u16; 512] = [0; 512];
-    let mut next: [u16; 256] = [0; 256];
-    let mut free: [u16; 256] = [0; 256];
-    let mut positions: [u16; 256] = [0; 256];
+    let mut slots = [state::vacant_slot(); 256];
+    let mut heads = [0; 512];
+    let mut next = [0; 256];
+    let mut free = [0; 256];
+    let mut entries = [Entry {
+        slot: 0,
+        last_access: 0,
+    }; 256];
+    let mut positions = [0; 256];
+    let a = read_list(bytes, over(at, 80), &mut slots, capacity);
     let buckets = low_8(bytes, a) as usize;
-    let b = read_words(bytes, over(a, 8), &mut heads, buckets);
-    let c = read_words(bytes, b, &mut next, capacity);
+    let b = read_list(bytes, over(a, 8), &mut heads, buckets);
+    let c = read_list(bytes, b, &mut next, capacity);
     let free_len = low_8(bytes, c) as usize;
-    let d = read_words(bytes, over(c, 8), &mut free, free_len);
+    let d = read_list(bytes, over(c, 8), &mut free, free_len);
     let heap_len = low_8(bytes, d) as usize;
-    let heaped = read_entries(bytes, over(d, 8), heap_len);
-    let e = heaped.end;
-    let end = read_words(bytes, e, &mut positions, capacity);
-    let slot_list = records.slots;
-    let entries = heaped.entries;
+    let e = read_list(bytes, over(d, 8), &mut entries, heap_len);
+    let end = read_list(bytes, e, &mut positions, capacity);
     let index = Index {
-        heads: heads,
-        buckets: buckets,
-        next: next,
-        free: free,
-        free_len: free_len,
+        heads,
+        buckets,
+        next,
+        free,
+        free_len,
     };
     let heap = EvictionHeap {
-        entries: entries,
+        entries,
         len: heap_len,
-        positions: positions,
+        positions,
     };
     let state = State {
-        slots: slot_list,
-        capacity: capacity,
-        index: index,
+        slots,
+        capacity,
+        index,
         eviction: heap,
         next_load_generation: low_8(bytes, over(at, 64)),
         next_access_sequence: low_8(bytes, over(at, 72)),
-        counters: counters,
+        counters,
         clean: low_8(bytes, over(at, 8)) as usize,
         loading: low_8(bytes, over(at, 16)) as usize,
     };
-    Table {
-        state: state,
-        end: end,
-    }
+    Table { state, end }
 }
 
 // A call: code, allow, number of pin bytes, length of the list that is lent to resize, number, key, generation and use number. The number is the token's slot
 // too, or no slot where it is above that.
+#[tactic(auto, unfolding(crate::specs::Bytes::call_at))]
 pub fn read_call(bytes: &[u8], at: usize) -> Call
     ensures { result ≡ call_at bytes.now at }
 {
     let number = low_8(bytes, over(at, 6)) as usize;
     let key = read_key(bytes, over(at, 14));
     let token = LoadToken {
-        slot: picture_numbers::least(number, basics::NO_SLOT) as u16,
+        slot: number.min(basics::NO_SLOT) as u16,
         generation: low_8(bytes, over(at, 31)),
-        key: key,
+        key,
         access_sequence: low_8(bytes, over(at, 39)),
     };
     Call {
         code: byte_at(bytes, at),
         allow: byte_at(bytes, over(at, 1)) != 0,
-        pins: low_2(bytes, over(at, 2)) as usize,
-        list: low_2(bytes, over(at, 4)) as usize,
-        number: number,
-        token: token,
+        pins: usize::from(low_2(bytes, over(at, 2))),
+        list: usize::from(low_2(bytes, over(at, 4))),
+        number,
+        token,
     }
 }
 
@@ -369,7 +320,7 @@ fn put_key(out: &mut [u8], at: usize, key: CacheKey) -> usize
     ensures { Within result out.old out.new }
 {
     let a = picture_numbers::put(out, at, key.file);
-    let b = picture_numbers::put(out, a, wide(key.kind));
+    let b = picture_numbers::put(out, a, u64::from(key.kind));
     picture_numbers::put(out, b, key.index)
 }
 
@@ -439,7 +390,7 @@ pub fn put_resized(
     ensures { Within result out.old out.new }
 {
     let a = put_maintenance(out, at, answer, places);
-    picture_numbers::put_words(out, a, list, places)
+    picture::put_words(out, a, list, places)
 }
 
 fn put_reclaimed(out: &mut [u8], at: usize, answer: Done, count: usize) -> usize
@@ -462,7 +413,7 @@ fn run_reclaim(out: &mut [u8], at: usize, t: State, limit: usize, pins: &[u8]) -
     let next = batch.state;
     let slots = batch.slots;
     let a = put_reclaimed(out, at, answer, batch.count);
-    let b = picture_numbers::put_words(out, a, &slots, 64);
+    let b = picture::put_words(out, a, &slots, 64);
     Ran { state: next, at: b }
 }
 
@@ -543,7 +494,7 @@ pub fn run(out: &mut [u8], at: usize, t: State, call: Call, pins: &[u8]) -> Ran
 }
 
 // The table after the call, what stands past its lengths, and the line's end.
-pub fn put_state(out: &mut [u8], at: usize, t: State) -> usize
+pub fn put_state(out: &mut [u8], at: usize, t: &State) -> usize
     ensures { Within result out.old out.new }
 {
     let a = picture::put_table(out, at, t);
@@ -552,29 +503,25 @@ pub fn put_state(out: &mut [u8], at: usize, t: State) -> usize
 }
 
 // The bytes that wait from a place on, with more read behind them, at the front, where a whole case may not be among them.
-pub fn wait<R: Input + Eprint>(rt: &R, bytes: &mut [u8], from: usize, end: usize) -> Waiting
-    ensures at_le_have { (result.at ≤ result.have) × (result.have ≤ length bytes.old) }
+pub fn wait<R: Input + Eprint>(
+    rt: &R,
+    bytes: &mut [u8],
+    from: usize,
+    end: usize,
+) -> Result<Waiting, Failed>
+    ensures at_le_have { IfOk result (λ w. (w.at ≤ w.have) × (w.have ≤ length bytes.old)) }
     ensures bytes_len_unchanged { length bytes.new ≡ length bytes.old }
 {
-    let have = picture_numbers::least(end, bytes.len());
-    let mut at = picture_numbers::least(from, have);
+    let have = end.min(bytes.len());
+    let at = from.min(have);
     if LONGEST <= have - at {
-        return Waiting {
-            at: at,
-            have: have,
-            failed: false,
-        };
+        return Ok(Waiting { at, have });
     }
-    let mut to: usize = 0;
-    while at < have {
-        bytes[to] = bytes[at];
-        at += 1;
-        to += 1;
-    }
-    let got = streams::read_block(rt, &mut bytes[to..]);
-    Waiting {
+    bytes.copy_within(at..have, 0);
+    let to = have - at;
+    let count = streams::read_block(rt, &mut bytes[to..])?;
+    Ok(Waiting {
         at: 0,
-        have: to + got.count,
-        failed: got.failed,
-    }
+        have: to + count,
+    })
 }

@@ -4,13 +4,15 @@
 // write that fails.
 #![tactic(auto)]
 
-ghost use Rattle.std.specs.Prelude.{◌≡◌, ◌≤◌, length};
+ghost use Rattle.std.specs.Prelude.{◌≡◌, ◌≤◌, length, IfSome};
 ghost use Rattle.cases.specs.Places.{Within};
 
 use basics::Done;
 use cases::Call;
 use gate::Gate;
+use picture_numbers::flush;
 use state::State;
+use streams::Failed;
 
 // The table and the gate that a call is made on, and the place behind their bytes.
 #[derive(Clone, Copy)]
@@ -62,32 +64,27 @@ fn begin(bytes: &[u8], t: State, gate: Gate) -> Begun {
     if cases::byte_at(bytes, 0) == 0 {
         return Begun {
             state: t,
-            gate: gate,
+            gate,
             end: behind,
         };
     }
     let table = cases::read_table(bytes, cases::over(behind, GATE));
-    let state = table.state;
-    let given = read_gate(bytes, behind);
     Begun {
-        state: state,
-        gate: given,
+        state: table.state,
+        gate: read_gate(bytes, behind),
         end: table.end,
     }
-}
-
-// A mark as a number.
-fn mark(pending: bool) -> u64 {
-    if pending {
-        return 1;
-    }
-    0
 }
 
 fn put_gate(out: &mut [u8], at: usize, gate: Gate) -> usize
     ensures { Within result out.old out.new }
 {
-    let numbers: [u64; 4] = [gate.pauses, gate.dirty, mark(gate.pending), gate.generation];
+    let numbers: [u64; 4] = [
+        gate.pauses,
+        gate.dirty,
+        u64::from(gate.pending),
+        gate.generation,
+    ];
     picture_numbers::put_numbers(out, at, &numbers)
 }
 
@@ -156,7 +153,7 @@ fn run_resize(
 ) -> Went
     ensures { Within result.at out.old out.new }
 {
-    let places = picture_numbers::least(call.list, list.len());
+    let places = call.list.min(list.len());
     let passed = passage::resize(t, gate, call.number, pins, &mut list[..places]);
     let answer = passed.answer;
     let next = passed.state;
@@ -213,115 +210,85 @@ fn put_case(
 {
     let a = picture_numbers::digits(out, at, number);
     let went = run(out, a, t, gate, call, pins);
-    let next = went.state;
-    let after = went.gate;
-    let b = put_gate(out, went.at, after);
+    let b = put_gate(out, went.at, went.gate);
     Went {
-        state: next,
-        gate: after,
-        at: cases::put_state(out, b, next),
+        state: went.state,
+        gate: went.gate,
+        at: cases::put_state(out, b, &went.state),
     }
 }
 
 // Whether there is such a call.
 fn known(code: u8) -> bool {
-    if code < 1 {
-        return false;
-    }
-    if 19 < code {
-        return false;
-    }
-    code != 7
+    matches!(code, 1..=6 | 8..=19)
 }
 
-// No case: nothing is taken.
-fn none(out: &mut [u8], at: usize, t: State, gate: Gate) -> Taken
-    ensures used_value { result.used ≡ 0 }
-    ensures within { Within result.written out.old out.new }
-{
-    Taken {
-        state: t,
-        gate: gate,
-        used: 0,
-        written: picture_numbers::put_text(out, at, b""),
-    }
-}
-
-// The case at the front of some bytes: how many it has, and the place behind its line. There are none where it is cut off, or of an unknown code or
+// The case at the front of some bytes: how many it has, and the place behind its line. There is none where it is cut off, or of an unknown code or
 // first byte.
-fn take_case(out: &mut [u8], at: usize, number: u64, t: State, gate: Gate, bytes: &[u8]) -> Taken
-    ensures used_in_bounds { result.used ≤ length bytes.now }
-    ensures within { Within result.written out.old out.new }
+fn take_case(
+    out: &mut [u8],
+    at: usize,
+    number: u64,
+    t: State,
+    gate: Gate,
+    bytes: &[u8],
+) -> Option<Taken>
+    ensures used_in_bounds { IfSome result (λ taken. taken.used ≤ length bytes.now) }
+    ensures within { IfSome result (λ taken. Within taken.written out.old out.new) }
+    ensures out_len_unchanged { length out.new ≡ length out.old }
 {
     let call = cases::read_call(bytes, 1);
     let begun = begin(bytes, t, gate);
     let from = begun.end;
     let end = cases::over(from, call.pins);
-    if bytes.len() < end {
-        return none(out, at, t, gate);
-    }
-    if end < from {
-        return none(out, at, t, gate);
-    }
-    if 1 < cases::byte_at(bytes, 0) {
-        return none(out, at, t, gate);
-    }
-    if !known(call.code) {
-        return none(out, at, t, gate);
+    if bytes.len() < end || end < from || 1 < cases::byte_at(bytes, 0) || !known(call.code) {
+        return None;
     }
     let pins = &bytes[from..end];
-    let state = begun.state;
-    let given = begun.gate;
-    let went = put_case(out, at, number, state, given, call, pins);
-    let next = went.state;
-    let after = went.gate;
-    Taken {
-        state: next,
-        gate: after,
+    let went = put_case(out, at, number, begun.state, begun.gate, call, pins);
+    Some(Taken {
+        state: went.state,
+        gate: went.gate,
         used: end,
         written: went.at,
-    }
+    })
 }
 
-// All cases. Before the first stand the table of a refused new and the gate as at first.
-fn run_all<R: Input + Print + Eprint>(rt: &R, bytes: &mut [u8], out: &mut [u8]) {
+// All cases. Before the first stand the table of a refused new and the gate as at first. What was written before the last is written out, whatever ends
+// them.
+fn run_all<R: Input + Print + Eprint>(
+    rt: &R,
+    bytes: &mut [u8],
+    out: &mut [u8],
+) -> Result<(), Failed> {
     let refused = State::try_new(0);
     let mut t = refused.state;
     let mut gate = Gate::new();
-    let mut written: usize = 0;
-    let mut number: u64 = 0;
-    let mut from: usize = 0;
-    let mut end: usize = 0;
-    let mut left: u64 = basics::MAX;
-    while 0 < left {
-        left -= 1;
-        let waiting = cases::wait(rt, bytes, from, end);
-        if waiting.failed {
-            picture_numbers::flush(rt, out, written, 0);
-            return;
-        }
-        let at = waiting.at;
-        let have = waiting.have;
-        let taken = take_case(out, written, number, t, gate, &bytes[at..have]);
-        if taken.used == 0 {
-            picture_numbers::flush(rt, out, taken.written, 0);
-            return;
-        }
-        let waits = picture_numbers::flush(rt, out, taken.written, cases::FULL);
-        if waits.failed {
-            return;
-        }
+    let mut written = 0;
+    let mut number = 0;
+    let mut from = 0;
+    let mut end = 0;
+    for _ in 0..u64::MAX {
+        let Ok(waiting) = cases::wait(rt, bytes, from, end) else {
+            break;
+        };
+        let case = &bytes[waiting.at..waiting.have];
+        let Some(taken) = take_case(out, written, number, t, gate, case) else {
+            break;
+        };
+        written = flush(rt, out, taken.written, cases::FULL)?;
         t = taken.state;
         gate = taken.gate;
-        written = waits.count;
-        from = cases::over(at, taken.used);
-        end = have;
+        from = waiting.at + taken.used;
+        end = waiting.have;
         number = basics::one_more(number);
     }
+    flush(rt, out, written, 0)?;
+    Ok(())
 }
 
 fn main(rt: HostRuntime) {
     let mut bytes: [u8; 262144] = [0; 262144];
     let mut out: [u8; 524288] = [0; 524288];
-    run_all(&rt, &mut bytes, &mut out);
+    let _ = run_all(&rt, &mut bytes, &mut out);
 }

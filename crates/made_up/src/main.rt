@@ -4,12 +4,14 @@
 // write that fails.
 #![tactic(auto)]
 
-ghost use Rattle.std.specs.Prelude.{◌≡◌, ◌≤◌, length};
+ghost use Rattle.std.specs.Prelude.{◌≡◌, ◌≤◌, length, IfSome};
 ghost use Rattle.cases.specs.Places.{Within};
 
 use cases::{Call, Ran};
 use key::CacheKey;
+use picture_numbers::flush;
 use state::State;
+use streams::Failed;
 
 // What was taken of some bytes, and the place behind what was written.
 #[derive(Clone, Copy)]
@@ -29,7 +31,7 @@ fn run_resize(
 ) -> Ran
     ensures { Within result.at out.old out.new }
 {
-    let places = picture_numbers::least(count, list.len());
+    let places = count.min(list.len());
     let maintained = maintenance_resize::resize(t, asked, pins, &mut list[..places]);
     let answer = maintained.answer;
     let next = maintained.state;
@@ -72,90 +74,63 @@ fn put_case(out: &mut [u8], at: usize, number: u64, t: State, call: Call, pins: 
 {
     let a = picture_numbers::digits(out, at, number);
     let ran = run(out, a, t, call, pins);
-    let after = ran.state;
-    cases::put_state(out, ran.at, after)
+    cases::put_state(out, ran.at, &ran.state)
 }
 
 // Whether there is such a call.
 fn known(code: u8) -> bool {
-    if code < 2 {
-        return false;
-    }
-    if 15 < code {
-        return false;
-    }
-    code != 7
+    matches!(code, 2..=6 | 8..=15)
 }
 
-// How many bytes the case at the front of some has, and the place behind its line. There are none where it is cut off or of an unknown code.
-fn take_case(out: &mut [u8], at: usize, number: u64, bytes: &[u8]) -> Taken
-    ensures used_in_bounds { result.used ≤ length bytes.now }
-    ensures within { Within result.written out.old out.new }
+// The case at the front of some bytes: how many it has, and the place behind its line. There is none where it is cut off or of an unknown code.
+fn take_case(out: &mut [u8], at: usize, number: u64, bytes: &[u8]) -> Option<Taken>
+    ensures used_in_bounds { IfSome result (λ taken. taken.used ≤ length bytes.now) }
+    ensures within { IfSome result (λ taken. Within taken.written out.old out.new) }
+    ensures out_len_unchanged { length out.new ≡ length out.old }
 {
     let call = cases::read_call(bytes, 0);
     let table = cases::read_table(bytes, cases::CALL);
-    let t = table.state;
     let from = table.end;
     let end = cases::over(from, call.pins);
-    if bytes.len() < end {
-        return Taken {
-            used: 0,
-            written: picture_numbers::put_text(out, at, b""),
-        };
-    }
-    if end < from {
-        return Taken {
-            used: 0,
-            written: picture_numbers::put_text(out, at, b""),
-        };
-    }
-    if !known(call.code) {
-        return Taken {
-            used: 0,
-            written: picture_numbers::put_text(out, at, b""),
-        };
+    if bytes.len() < end || end < from || !known(call.code) {
+        return None;
     }
     let pins = &bytes[from..end];
-    Taken {
+    Some(Taken {
         used: end,
-        written: put_case(out, at, number, t, call, pins),
-    }
+        written: put_case(out, at, number, table.state, call, pins),
+    })
 }
 
-// All cases.
-fn run_all<R: Input + Print + Eprint>(rt: &R, bytes: &mut [u8], out: &mut [u8]) {
-    let mut written: usize = 0;
-    let mut number: u64 = 0;
-    let mut from: usize = 0;
-    let mut end: usize = 0;
-    let mut left: u64 = basics::MAX;
-    while 0 < left {
-        left -= 1;
-        let waiting = cases::wait(rt, bytes, from, end);
-        if waiting.failed {
-            picture_numbers::flush(rt, out, written, 0);
-            return;
-        }
-        let at = waiting.at;
-        let have = waiting.have;
-        let taken = take_case(out, written, number, &bytes[at..have]);
-        if taken.used == 0 {
-            picture_numbers::flush(rt, out, taken.written, 0);
-            return;
-        }
-        let waits = picture_numbers::flush(rt, out, taken.written, cases::FULL);
-        if waits.failed {
-            return;
-        }
-        written = waits.count;
-        from = at + taken.used;
-        end = have;
+// All cases. What was written before the last is written out, whatever ends them.
+fn run_all<R: Input + Print + Eprint>(
+    rt: &R,
+    bytes: &mut [u8],
+    out: &mut [u8],
+) -> Result<(), Failed> {
+    let mut written = 0;
+    let mut number = 0;
+    let mut from = 0;
+    let mut end = 0;
+    for _ in 0..u64::MAX {
+        let Ok(waiting) = cases::wait(rt, bytes, from, end) else {
+            break;
+        };
+        let case = &bytes[waiting.at..waiting.have];
+        let Some(taken) = take_case(out, written, number, case) else {
+            break;
+        };
+        written = flush(rt, out, taken.written, cases::FULL)?;
+        from = waiting.at + taken.used;
+        end = waiting.have;
         number = basics::one_more(number);
     }
+    flush(rt, out, written, 0)?;
+    Ok(())
 }
 
 fn main(rt: HostRuntime) {
     let mut bytes: [u8; 262144] = [0; 262144];
     let mut out: [u8; 524288] = [0; 524288];
-    run_all(&rt, &mut bytes, &mut out);
+    let _ = run_all(&rt, &mut bytes, &mut out);
 }

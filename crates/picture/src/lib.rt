@@ -3,205 +3,199 @@
 // function writes from a place of `out` on and answers the place behind what it wrote, which is always within `out`.
 #![tactic(auto)]
 
-ghost use Rattle.std.specs.Prelude.{◌≡◌, take, drop};
+ghost use Rattle.std.specs.Prelude.{◌≡◌, ℕ, false, not, List, take};
 ghost use Rattle.picture_numbers.specs.Wrote.{Wrote};
-ghost use Rattle.picture_numbers.specs.Numbers.{spaced, told, held, past};
+ghost use Rattle.picture_numbers.specs.Numbers.{spaced, word_numbers, all_zero, placed, below, past};
 ghost use Rattle.picture.specs.Table.{slot_numbers, entry_numbers, index_numbers, heap_numbers, table_numbers, index_past, heap_past, past_numbers};
 
 use eviction::{Entry, EvictionHeap};
 use index::Index;
-use picture_numbers::{
-    Walked, least, put, put_numbers, put_place, put_text, put_words, put_words_past, wider,
-};
+use picture_numbers::{all_zero, put, put_numbers};
 use state::{Slot, State};
 
-fn wide(byte: u8) -> u64
-    ensures { result ≡ byte }
-{
-    byte as u64
+// What a list that is told is made of.
+pub trait Place {
+    ghost stand: { Self → List ℕ };
+
+    // Whether all numbers that stand there are 0.
+    fn is_zero(&self) -> bool
+        ensures { result ≡ all_zero (stand self.now) };
+
+    fn put(&self, out: &mut [u8], at: usize) -> usize
+        ensures { Wrote out.old at (spaced (stand self.now)) result out.new };
 }
 
-fn slot_numbers(slot: Slot) -> [u64; 6]
-    ensures { result ≡ slot_numbers slot }
+impl Place for u16 {
+    ghost stand = { word_numbers };
+
+    fn is_zero(&self) -> bool {
+        all_zero(&[u64::from(*self)])
+    }
+
+    fn put(&self, out: &mut [u8], at: usize) -> usize {
+        put(out, at, u64::from(*self))
+    }
+}
+
+fn entry_numbers(entry: &Entry) -> [u64; 2]
+    ensures { result ≡ entry_numbers entry.now }
 {
-    let key = slot.key;
+    [u64::from(entry.slot), entry.last_access]
+}
+
+impl Place for Entry {
+    ghost stand = { entry_numbers };
+
+    fn is_zero(&self) -> bool {
+        all_zero(&entry_numbers(self))
+    }
+
+    fn put(&self, out: &mut [u8], at: usize) -> usize {
+        put_numbers(out, at, &entry_numbers(self))
+    }
+}
+
+fn slot_numbers(slot: &Slot) -> [u64; 6]
+    ensures { result ≡ slot_numbers slot.now }
+{
     [
-        wide(slot.kind),
-        key.file,
-        wide(key.kind),
-        key.index,
+        u64::from(slot.kind),
+        slot.key.file,
+        u64::from(slot.key.kind),
+        slot.key.index,
         slot.generation,
         slot.last_access,
     ]
 }
 
-fn walk_slots(
-    out: &mut [u8],
-    at: usize,
-    slots: [Slot; 256],
-    from: usize,
-    count: usize,
-    bare: bool,
-) -> Walked
-    ensures wrote { Wrote out.old at (spaced (told slot_numbers bare from (take count (drop from slots)))) result.at out.new }
-    ensures held_value { result.held ≡ held slot_numbers (take count (drop from slots)) }
+impl Place for Slot {
+    ghost stand = { slot_numbers };
+
+    fn is_zero(&self) -> bool {
+        all_zero(&slot_numbers(self))
+    }
+
+    fn put(&self, out: &mut [u8], at: usize) -> usize {
+        put_numbers(out, at, &slot_numbers(self))
+    }
+}
+
+// The first places of a list, `count` of them.
+fn put_list<T: Place>(out: &mut [u8], at: usize, list: &[T], count: usize) -> usize
+    ensures { Wrote out.old at (spaced (below T.stand count list.now)) result out.new }
 {
-    let mut i = least(from, 256);
-    let mut left = least(count, 256 - i);
-    let mut to = Walked {
-        at: put_text(out, at, b""),
-        held: 0,
-    };
-    while 0 < left {
-        let slot = slots[i];
-        let numbers = slot_numbers(slot);
-        to = put_place(out, to, bare, i, &numbers);
-        i += 1;
-        left -= 1;
+    let places = count.min(list.len());
+    let mut to = at.min(out.len());
+    for place in &list[..places] {
+        to = place.put(out, to);
     }
     to
 }
 
-fn entry_numbers(entry: Entry) -> [u64; 2]
-    ensures { result ≡ entry_numbers entry }
+// What stands at a place behind the place's number; nothing where it is 0.
+fn put_place<T: Place>(out: &mut [u8], at: usize, number: usize, place: &T) -> usize
+    ensures { Wrote out.old at (spaced (placed false number (T.stand place.now))) result out.new }
 {
-    [wider(entry.slot), entry.last_access]
+    if place.is_zero() {
+        return at.min(out.len());
+    }
+    let a = put(out, at, number as u64);
+    place.put(out, a)
 }
 
-fn walk_entries(
-    out: &mut [u8],
-    at: usize,
-    entries: [Entry; 256],
-    from: usize,
-    count: usize,
-    bare: bool,
-) -> Walked
-    ensures wrote { Wrote out.old at (spaced (told entry_numbers bare from (take count (drop from entries)))) result.at out.new }
-    ensures held_value { result.held ≡ held entry_numbers (take count (drop from entries)) }
+// Those past a length that are not 0: how many they are, and each behind its place.
+pub fn put_list_past<T: Place>(out: &mut [u8], at: usize, list: &[T], length: usize) -> usize
+    ensures { Wrote out.old at (spaced (past T.stand length list.now)) result out.new }
 {
-    let mut i = least(from, 256);
-    let mut left = least(count, 256 - i);
-    let mut to = Walked {
-        at: put_text(out, at, b""),
-        held: 0,
-    };
-    while 0 < left {
-        let entry = entries[i];
-        let numbers = entry_numbers(entry);
-        to = put_place(out, to, bare, i, &numbers);
-        i += 1;
-        left -= 1;
+    let from = length.min(list.len());
+    let behind = &list[from..];
+    let held = behind
+        .iter()
+        .filter(
+            |place| -> bool
+                ensures { result ≡ not (all_zero (T.stand place.now.now)) }
+            { !place.is_zero() },
+        )
+        .count();
+    let mut to = put(out, at, held as u64);
+    for (i, place) in behind.iter().enumerate() {
+        to = put_place(out, to, from + i, place);
     }
     to
 }
 
-fn put_slots_past(out: &mut [u8], at: usize, slots: [Slot; 256], length: usize) -> usize
-    ensures { Wrote out.old at (spaced (past slot_numbers length slots)) result out.new }
+// The first words of a list, `count` of them.
+#[tactic(auto, using(picture_numbers::proofs::Laws::wrote_as, crate::proofs::Laws::below_words))]
+pub fn put_words(out: &mut [u8], at: usize, list: &[u16], count: usize) -> usize
+    ensures { Wrote out.old at (spaced (take count list.now)) result out.new }
 {
-    let mut no_room: [u8; 1] = [0; 1];
-    let counted = walk_slots(&mut no_room, 1, slots, length, 256, false);
-    let a = put(out, at, counted.held as u64);
-    if counted.held == 0 {
-        return a;
-    }
-    let walked = walk_slots(out, a, slots, length, 256, false);
-    walked.at
-}
-
-fn put_entries_past(out: &mut [u8], at: usize, entries: [Entry; 256], length: usize) -> usize
-    ensures { Wrote out.old at (spaced (past entry_numbers length entries)) result out.new }
-{
-    let mut no_room: [u8; 1] = [0; 1];
-    let counted = walk_entries(&mut no_room, 1, entries, length, 256, false);
-    let a = put(out, at, counted.held as u64);
-    if counted.held == 0 {
-        return a;
-    }
-    let walked = walk_entries(out, a, entries, length, 256, false);
-    walked.at
+    put_list(out, at, list, count)
 }
 
 // Bucket count, heads, next, and the free stack.
-fn put_index(out: &mut [u8], at: usize, index: Index, capacity: usize) -> usize
-    ensures { Wrote out.old at (spaced (index_numbers index capacity)) result out.new }
+fn put_index(out: &mut [u8], at: usize, index: &Index, capacity: usize) -> usize
+    ensures { Wrote out.old at (spaced (index_numbers index.now capacity)) result out.new }
 {
-    let heads = index.heads;
-    let next = index.next;
-    let free = index.free;
     let a = put(out, at, index.buckets as u64);
-    let b = put_words(out, a, &heads, index.buckets);
-    let c = put_words(out, b, &next, capacity);
+    let b = put_words(out, a, &index.heads, index.buckets);
+    let c = put_words(out, b, &index.next, capacity);
     let d = put(out, c, index.free_len as u64);
-    put_words(out, d, &free, index.free_len)
+    put_words(out, d, &index.free, index.free_len)
 }
 
 // The heap: its length, slot and last use of each place, and the places.
-fn put_heap(out: &mut [u8], at: usize, heap: EvictionHeap, capacity: usize) -> usize
-    ensures { Wrote out.old at (spaced (heap_numbers heap capacity)) result out.new }
+fn put_heap(out: &mut [u8], at: usize, heap: &EvictionHeap, capacity: usize) -> usize
+    ensures { Wrote out.old at (spaced (heap_numbers heap.now capacity)) result out.new }
 {
-    let entries = heap.entries;
-    let positions = heap.positions;
     let a = put(out, at, heap.len as u64);
-    let walked = walk_entries(out, a, entries, 0, heap.len, true);
-    put_words(out, walked.at, &positions, capacity)
+    let b = put_list(out, a, &heap.entries, heap.len);
+    put_words(out, b, &heap.positions, capacity)
 }
 
 // A table: 2 to 9 of the trace.
-pub fn put_table(out: &mut [u8], at: usize, t: State) -> usize
-    ensures { Wrote out.old at (spaced (table_numbers t)) result out.new }
+pub fn put_table(out: &mut [u8], at: usize, t: &State) -> usize
+    ensures { Wrote out.old at (spaced (table_numbers t.now)) result out.new }
 {
-    let counters = t.counters;
-    let slots = t.slots;
-    let index = t.index;
-    let heap = t.eviction;
     let numbers: [u64; 10] = [
         t.capacity as u64,
         t.clean as u64,
         t.loading as u64,
-        counters.hits,
-        counters.misses,
-        counters.evictions,
-        counters.in_progress,
-        counters.capacity_busy,
+        t.counters.hits,
+        t.counters.misses,
+        t.counters.evictions,
+        t.counters.in_progress,
+        t.counters.capacity_busy,
         t.next_load_generation,
         t.next_access_sequence,
     ];
     let a = put_numbers(out, at, &numbers);
-    let walked = walk_slots(out, a, slots, 0, t.capacity, true);
-    let b = put_index(out, walked.at, index, t.capacity);
-    put_heap(out, b, heap, t.capacity)
+    let b = put_list(out, a, &t.slots, t.capacity);
+    let c = put_index(out, b, &t.index, t.capacity);
+    put_heap(out, c, &t.eviction, t.capacity)
 }
 
 // Of the index what stands past the lengths and is not 0.
-fn put_index_past(out: &mut [u8], at: usize, index: Index, capacity: usize) -> usize
-    ensures { Wrote out.old at (spaced (index_past index capacity)) result out.new }
+fn put_index_past(out: &mut [u8], at: usize, index: &Index, capacity: usize) -> usize
+    ensures { Wrote out.old at (spaced (index_past index.now capacity)) result out.new }
 {
-    let heads = index.heads;
-    let next = index.next;
-    let free = index.free;
-    let a = put_words_past(out, at, &heads, index.buckets);
-    let b = put_words_past(out, a, &next, capacity);
-    put_words_past(out, b, &free, index.free_len)
+    let a = put_list_past(out, at, &index.heads, index.buckets);
+    let b = put_list_past(out, a, &index.next, capacity);
+    put_list_past(out, b, &index.free, index.free_len)
 }
 
 // Of the heap.
-fn put_heap_past(out: &mut [u8], at: usize, heap: EvictionHeap, capacity: usize) -> usize
-    ensures { Wrote out.old at (spaced (heap_past heap capacity)) result out.new }
+fn put_heap_past(out: &mut [u8], at: usize, heap: &EvictionHeap, capacity: usize) -> usize
+    ensures { Wrote out.old at (spaced (heap_past heap.now capacity)) result out.new }
 {
-    let entries = heap.entries;
-    let positions = heap.positions;
-    let a = put_entries_past(out, at, entries, heap.len);
-    put_words_past(out, a, &positions, capacity)
+    let a = put_list_past(out, at, &heap.entries, heap.len);
+    put_list_past(out, a, &heap.positions, capacity)
 }
 
 // Of a table: 11 of the trace, without the pins.
-pub fn put_past(out: &mut [u8], at: usize, t: State) -> usize
-    ensures { Wrote out.old at (spaced (past_numbers t)) result out.new }
+pub fn put_past(out: &mut [u8], at: usize, t: &State) -> usize
+    ensures { Wrote out.old at (spaced (past_numbers t.now)) result out.new }
 {
-    let slots = t.slots;
-    let index = t.index;
-    let heap = t.eviction;
-    let a = put_slots_past(out, at, slots, t.capacity);
-    let b = put_index_past(out, a, index, t.capacity);
-    put_heap_past(out, b, heap, t.capacity)
+    let a = put_list_past(out, at, &t.slots, t.capacity);
+    let b = put_index_past(out, a, &t.index, t.capacity);
+    put_heap_past(out, b, &t.eviction, t.capacity)
 }

@@ -4,6 +4,7 @@
 
 use std::env::FillError;
 use std::rt::Env;
+use streams::Failed;
 
 // A block of input: 2048 records of 24 bytes.
 const BLOCK: usize = 49152;
@@ -14,44 +15,33 @@ const ROOM: usize = 196608;
 // Whether an argument stands behind the program's name. Its text is not needed.
 fn has_argument<R: Env>(rt: &R) -> bool {
     let mut text: [u8; 1] = [0; 1];
-    match rt.arg(1, &mut text) {
-        Err(FillError::NotPresent) => false,
-        _ => true,
-    }
+    !matches!(rt.arg(1, &mut text), Err(FillError::NotPresent))
 }
 
 // `blocks` of crate sheet is the theorem that these blocks print what the whole input prints. A short count is the end of the
 // input, so nothing of a block is kept but what stands.
+fn run<R: Input + Print + Eprint>(rt: &R) -> Result<(), Failed> {
+    let mut bytes: [u8; BLOCK] = [0; BLOCK];
+    let mut out: [u8; ROOM] = [0; ROOM];
+    let mut standing = sheet_standing::start();
+    let mut number = 0;
+    for _ in 0..u64::MAX {
+        let count = streams::read_block(rt, &mut bytes)?;
+        let ran = sheet::run(standing, number, &bytes[..count], &mut out);
+        streams::write_out(rt, &out[..ran.written])?;
+        if ran.ended || count < BLOCK {
+            break;
+        }
+        standing = ran.standing;
+        number = ran.number;
+    }
+    Ok(())
+}
+
 fn main(rt: HostRuntime) {
     if has_argument(&rt) {
         let _ = eprintln!(rt; "usage: runsheet < SHEET > LINES");
         return;
     }
-    let mut bytes: [u8; BLOCK] = [0; BLOCK];
-    let mut out: [u8; ROOM] = [0; ROOM];
-    let mut standing = sheet_standing::start();
-    let mut number: u64 = 0;
-    let mut blocks: u64 = basics::MAX;
-    while 0 < blocks {
-        blocks -= 1;
-        let got = streams::read_block(&rt, &mut bytes);
-        if got.failed {
-            return;
-        }
-        let count = got.count;
-        let ran = sheet::run(standing, number, &bytes[..count], &mut out);
-        let written = ran.written;
-        let wrote = streams::write_out(&rt, &out[..written]);
-        if !wrote {
-            return;
-        }
-        if ran.ended {
-            return;
-        }
-        if count < BLOCK {
-            return;
-        }
-        standing = ran.standing;
-        number = ran.number;
-    }
+    let _ = run(&rt);
 }

@@ -373,14 +373,15 @@ fn finished(begun: Begun, call: Span) -> Result<Record, Fault>
     ensures value { result ≡ finished begun call }
     ensures good { good_call call.to result ≡ true }
 {
-    let fields = begun.fields;
-    if matches!(fields[CODE].ask, Ask::Must) || matches!(fields[NUMBER].ask, Ask::Must) {
+    if matches!(begun.fields[CODE].ask, Ask::Must)
+        || matches!(begun.fields[NUMBER].ask, Ask::Must)
+    {
         return Err(Fault {
             why: Why::Missing,
             word: call,
         });
     }
-    Ok(record_of(fields))
+    Ok(record_of(begun.fields))
 }
 
 // A call with the words behind it, which begin at a place of the text.

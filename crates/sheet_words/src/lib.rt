@@ -88,6 +88,7 @@ fn put_number(line: Line, said: Said) -> Line
 }
 
 // What stands behind the word: the other three fields, and nothing behind `bad`.
+#[tactic(auto, using(basics::proofs::Tests::tests), unfolding(sheet_lines::specs::Words::tail_of))]
 fn tail_of(said: Said, clean: usize, loading: usize) -> Line
     ensures result_value { text_of result ≡ tail_of said clean loading }
     ensures le_from { (32 ≤ result.from) × (result.from ≤ 96) }
@@ -107,6 +108,7 @@ fn tail_of(said: Said, clean: usize, loading: usize) -> Line
 }
 
 // The line of a record, with the number of clean slots and that of loading ones.
+#[tactic(auto, unfolding(sheet_lines::specs::Words::line_of))]
 pub fn line_of(number: u64, said: Said, clean: usize, loading: usize) -> Line
     ensures result_value { text_of result ≡ line_of number said clean loading }
     ensures from_bound { result.from ≤ 96 }

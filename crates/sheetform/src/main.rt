@@ -138,7 +138,7 @@ fn write_some<R: Print + Eprint, E: Print>(
 ) -> bool {
     let mut out: ArrayVec<u8, 98304> = ArrayVec::new();
     let answer = records_of(reading, text, &mut out);
-    if !streams::write_out(rt, out.as_slice()) {
+    if streams::write_out(rt, out.as_slice()).is_err() {
         return false;
     }
     if let Err(wrong) = answer {
@@ -151,11 +151,9 @@ fn write_some<R: Print + Eprint, E: Print>(
 // A block of text. The end of the input ends its last line; a failed read ends the run. The answer is whether another block follows.
 fn text_block<R: Input + Print + Eprint, E: Print>(rt: &R, err: &E, reading: &mut Reading) -> bool {
     let mut bytes: [u8; 4096] = [0; 4096];
-    let got = streams::read_block(rt, &mut bytes);
-    let count = got.count;
-    if got.failed {
+    let Ok(count) = streams::read_block(rt, &mut bytes) else {
         return false;
-    }
+    };
     if count == 0 {
         write_some(rt, err, reading, b"\n");
         return false;
@@ -179,15 +177,9 @@ fn write_records<R: Input + Print + Eprint, E: Print>(rt: &R, err: &E) {
 fn record_block<R: Input + Print + Eprint, E: Print>(rt: &R, err: &E, number: u64) -> Option<u64> {
     let mut bytes: [u8; 3072] = [0; 3072];
     let mut out: ArrayVec<u8, 25600> = ArrayVec::new();
-    let got = streams::read_block(rt, &mut bytes);
-    let count = got.count;
-    if got.failed {
-        return None;
-    }
+    let count = streams::read_block(rt, &mut bytes).ok()?;
     let listed = text_of(&bytes[..count], &mut out);
-    if !streams::write_out(rt, out.as_slice()) {
-        return None;
-    }
+    streams::write_out(rt, out.as_slice()).ok()?;
     match listed {
         Ok(records) if 0 < count => Some(number.wrapping_add(records as u64)),
         Ok(_) => None,

@@ -3,80 +3,44 @@
 // is 0 then too. Which bytes are read and written no contract can say.
 #![tactic(auto)]
 
-ghost use Rattle.std.specs.Prelude.{◌≡◌, true, ◌≤◌, length};
+ghost use Rattle.std.specs.Prelude.{◌≡◌, Ok, length, IfOk};
 ghost use Rattle.io.specs.Counts.{IsPrefixLen};
 
 use std::io::Read;
 
-// How many bytes of a block were read, and whether a read failed.
-#[derive(Clone, Copy)]
-pub struct Got {
-    pub count: usize,
-    pub failed: bool,
-}
+// A read or a write failed, and standard error was told.
+#[derive(Clone, Copy, Debug)]
+pub struct Failed;
 
-// One read into a block behind its first bytes: how many it has then.
-fn read_more<R: Eprint, I: Read>(rt: &R, input: &mut I, block: &mut [u8], done: usize) -> Got
-    requires { done ≤ length block.old }
-    ensures count_in_bounds { result.count ≤ length block.new }
-    ensures block_len_unchanged { length block.new ≡ length block.old }
-{
-    match input.read(&mut block[done..]) {
-        Ok(more) => Got {
-            count: done + more,
-            failed: false,
-        },
-        Err(error) => {
-            let _ = eprintln!(rt; "standard input: {error}");
-            Got {
-                count: done,
-                failed: true,
-            }
-        }
-    }
-}
-
-// Reads until the block is full, the input ends or a read fails. Unlike `io::read_full` it tells the end from a failure.
-pub fn read_block<R: Input + Eprint>(rt: &R, block: &mut [u8]) -> Got
-    ensures prefix_len { IsPrefixLen result.count block.new }
+// Reads until the block is full or the input ends: how many bytes of it were read. Unlike `io::read_full` it tells the end from a failure.
+pub fn read_block<R: Input + Eprint>(rt: &R, block: &mut [u8]) -> Result<usize, Failed>
+    ensures prefix_len { IfOk result (λ count. IsPrefixLen count block.new) }
     ensures block_len_unchanged { length block.new ≡ length block.old }
 {
     let mut input = rt.reader();
-    let mut so_far = Got {
-        count: 0,
-        failed: false,
-    };
-    // A turn that goes on has read at least a byte.
-    let mut left = block.len();
-    while 0 < left {
-        left -= 1;
-        let next = read_more(rt, &mut input, block, so_far.count);
-        if next.failed {
-            return next;
+    let mut count = 0;
+    while count < block.len() {
+        match input.read(&mut block[count..]) {
+            Ok(0) => break,
+            Ok(more) => count += more,
+            Err(error) => {
+                let _ = eprintln!(rt; "standard input: {error}");
+                return Err(Failed);
+            }
         }
-        if next.count == so_far.count {
-            return next;
-        }
-        if next.count == block.len() {
-            return next;
-        }
-        so_far = next;
     }
-    so_far
+    Ok(count)
 }
 
-// Writes all of a text. The answer is whether it was written; nothing fails where there is nothing to write.
-pub fn write_out<R: Print + Eprint>(rt: &R, text: &[u8]) -> bool
-    ensures { length text.now ≡ 0 → result ≡ true }
+// Writes all of a text. Nothing fails where there is nothing to write.
+pub fn write_out<R: Print + Eprint>(rt: &R, text: &[u8]) -> Result<(), Failed>
+    ensures { length text.now ≡ 0 → result ≡ Ok tt }
 {
     if text.len() == 0 {
-        return true;
+        return Ok(());
     }
-    match rt.write_all(text) {
-        Ok(()) => true,
-        Err(error) => {
-            let _ = eprintln!(rt; "standard output: {error}");
-            false
-        }
-    }
+    rt.write_all(text).map_err(|error| {
+        let _ = eprintln!(rt; "standard output: {error}");
+        Failed
+    })
 }

@@ -1,12 +1,11 @@
 -- SPDX-License-Identifier: Apache-2.0
--- Laws of a record's text: a line without its end, pins as words, and the two ends of the rule. Assumes nothing.
+-- Laws of a record's text: a line without its end, and the two ends of the rule. Assumes nothing.
 use Prim.Native.Nat.{ℕ, ◌-◌, ◌≤◌, ◌<◌}
 use native.Mathlib.Omega.{arith}
-use mathlib.Core.Path.{◌≡◌, ◌∙◌}
+use mathlib.Core.Path.{◌≡◌}
 use mathlib.Core.Bool.{true, false}
 use mathlib.Core.List.{List, [], ◌∷◌, ◌++◌, append-nil}
 use lib.ListN.{length, take, drop, length-drop, drop_of_length-le}
-use Rattle.basics.proofs.Fills.{filled, fill_end}
 use Rattle.sheet_lines.specs.declared.Said.{Said}
 use Rattle.sheet_lines.specs.Text.{NEWLINE}
 use Rattle.sheet_lines.specs.Words.{is_bad, line_of}
@@ -23,11 +22,6 @@ unfolding front
 front_part l from end h e =
     let n : length (drop from l) - 1 ≡ end - from = rw length-drop (omega arith) in
     rw n
-
-pub fill_whole : (l : List ℕ) (i : ℕ) → length l ≡ 256 → 256 ≤ i → filled 256 l i ≡ l
-fill_whole l i e h =
-    let z : 256 - i ≡ 0 = omega arith in
-    fill_end 256 l i (omega arith) ∙ rw z (append-nil l)
 
 module _ (number : ℕ) (said : Said) (s : Standing) where
   pub record_bad : is_bad said ≡ true → front (line_of number said s.state.clean s.state.loading) ++ (NEWLINE ∷ []) ≡ record_text number said s

@@ -9,15 +9,16 @@ ghost use Rattle.picture_numbers.specs.Wrote.{Wrote};
 ghost use Rattle.trace.specs.Record.{front, standing_numbers, record_text};
 ghost use Rattle.picture_numbers.specs.Numbers.{spaced};
 
+use picture_numbers::{flush, put_text};
 use sheet_lines::{Line, Said};
 use sheet_standing::Standing;
+use streams::Failed;
 
-// What stands after a block of records, and whether there is an end: a bad record, or a write that failed.
+// What stands after a block of records.
 #[derive(Clone, Copy)]
 struct Ran {
     standing: Standing,
     number: u64,
-    ended: bool,
 }
 
 // More is written before this many bytes stand in `out`. A record's text is far shorter than the rest of it.
@@ -28,141 +29,105 @@ fn put_but_last(out: &mut [u8], at: usize, text: &[u8], from: usize) -> usize
     ensures { Wrote out.old at (front (drop from text.now)) result out.new }
 {
     if text.len() <= from {
-        return picture_numbers::put_text(out, at, b"");
+        return put_text(out, at, b"");
     }
     let end = text.len() - 1;
-    picture_numbers::put_text(out, at, &text[from..end])
+    put_text(out, at, &text[from..end])
 }
 
 // A line without its end.
 fn put_line(out: &mut [u8], at: usize, line: Line) -> usize
     ensures { Wrote out.old at (front (text_of line)) result out.new }
 {
-    let bytes = line.bytes;
-    put_but_last(out, at, &bytes, line.from)
-}
-
-fn wide(byte: u8) -> u16
-    ensures { result ≡ byte }
-{
-    byte as u16
+    put_but_last(out, at, &line.bytes, line.from)
 }
 
 // The pins, as numbers of 16 bits.
 fn pin_words(pins: [u8; 256]) -> [u16; 256]
     ensures { result ≡ pins }
 {
-    let mut words: [u16; 256] = [0; 256];
-    let mut i: usize = 0;
-    let mut left: usize = 256;
-    while 0 < left {
-        words[i] = wide(pins[i]);
-        i += 1;
-        left -= 1;
-    }
-    words
+    pins.map(u16::from)
 }
 
 // The table and the pins, and of both what stands past the lengths.
-fn put_standing(out: &mut [u8], at: usize, s: Standing) -> usize
-    ensures { Wrote out.old at (spaced (standing_numbers s)) result out.new }
+fn put_standing(out: &mut [u8], at: usize, s: &Standing) -> usize
+    ensures { Wrote out.old at (spaced (standing_numbers s.now)) result out.new }
 {
-    let t = s.state;
-    let bytes = s.pins;
-    let pins = pin_words(bytes);
-    let a = picture::put_table(out, at, t);
-    let b = picture_numbers::put_words(out, a, &pins, t.capacity);
-    let c = picture::put_past(out, b, t);
-    picture_numbers::put_words_past(out, c, &pins, t.capacity)
+    let pins = pin_words(s.pins);
+    let a = picture::put_table(out, at, &s.state);
+    let b = picture::put_words(out, a, &pins, s.state.capacity);
+    let c = picture::put_past(out, b, &s.state);
+    picture::put_list_past(out, c, &pins, s.state.capacity)
 }
 
 // The text of a record: its line, and but for a bad one what stands after it.
-fn put_record(out: &mut [u8], at: usize, number: u64, said: Said, s: Standing) -> usize
-    ensures { Wrote out.old at (record_text number said s) result out.new }
+fn put_record(out: &mut [u8], at: usize, number: u64, said: Said, s: &Standing) -> usize
+    ensures { Wrote out.old at (record_text number said s.now) result out.new }
 {
-    let t = s.state;
-    let line = sheet_words::line_of(number, said, t.clean, t.loading);
+    let line = sheet_words::line_of(number, said, s.state.clean, s.state.loading);
     let a = put_line(out, at, line);
     if sheet_lines::is_bad(said) {
-        return picture_numbers::put_text(out, a, b"\n");
+        return put_text(out, a, b"\n");
     }
     let b = put_standing(out, a, s);
-    picture_numbers::put_text(out, b, b"\n")
+    put_text(out, b, b"\n")
 }
 
-// The records of a block.
+// The records of a block. Nothing stands after a bad one, which ends the run.
 fn run<R: Print + Eprint>(
     rt: &R,
     standing: Standing,
     first: u64,
     bytes: &[u8],
     out: &mut [u8],
-) -> Ran
+) -> Result<Option<Ran>, Failed>
     ensures { length out.new ≡ length out.old }
 {
     let mut s = standing;
     let mut number = first;
-    let mut written: usize = 0;
-    let mut at: usize = 0;
-    while at < bytes.len() {
-        let stepped = sheet_steps::step(s, &bytes[at..]);
-        let said = stepped.said;
+    let mut written = 0;
+    for record in bytes.chunks(sheet_lines::RECORD) {
+        let stepped = sheet_steps::step(s, record);
         s = stepped.standing;
-        written = put_record(out, written, number, said, s);
-        if sheet_lines::is_bad(said) {
-            picture_numbers::flush(rt, out, written, 0);
-            return Ran {
-                standing: s,
-                number: number,
-                ended: true,
-            };
+        written = put_record(out, written, number, stepped.said, &s);
+        if sheet_lines::is_bad(stepped.said) {
+            flush(rt, out, written, 0)?;
+            return Ok(None);
         }
-        let waits = picture_numbers::flush(rt, out, written, FULL);
-        if waits.failed {
-            return Ran {
-                standing: s,
-                number: number,
-                ended: true,
-            };
-        }
-        written = waits.count;
+        written = flush(rt, out, written, FULL)?;
         number = basics::one_more(number);
-        at += picture_numbers::least(bytes.len() - at, sheet_lines::RECORD);
     }
-    let last = picture_numbers::flush(rt, out, written, 0);
-    Ran {
+    flush(rt, out, written, 0)?;
+    Ok(Some(Ran {
         standing: s,
-        number: number,
-        ended: last.failed,
-    }
+        number,
+    }))
 }
 
 // The records of all blocks, each of as many bytes as there is room for.
-fn run_all<R: Input + Print + Eprint>(rt: &R, bytes: &mut [u8], out: &mut [u8]) {
+fn run_all<R: Input + Print + Eprint>(
+    rt: &R,
+    bytes: &mut [u8],
+    out: &mut [u8],
+) -> Result<(), Failed> {
     let mut standing = sheet_standing::start();
-    let mut number: u64 = 0;
-    let mut blocks: u64 = basics::MAX;
-    while 0 < blocks {
-        blocks -= 1;
-        let got = streams::read_block(rt, bytes);
-        if got.failed {
-            return;
-        }
-        let count = got.count;
-        let ran = run(rt, standing, number, &bytes[..count], out);
-        if ran.ended {
-            return;
-        }
+    let mut number = 0;
+    for _ in 0..u64::MAX {
+        let count = streams::read_block(rt, bytes)?;
+        let Some(ran) = run(rt, standing, number, &bytes[..count], out)? else {
+            break;
+        };
         if count < bytes.len() {
-            return;
+            break;
         }
         standing = ran.standing;
         number = ran.number;
     }
+    Ok(())
 }
 
 fn main(rt: HostRuntime) {
     let mut bytes: [u8; 49152] = [0; 49152];
     let mut out: [u8; 262144] = [0; 262144];
-    run_all(&rt, &mut bytes, &mut out);
+    let _ = run_all(&rt, &mut bytes, &mut out);
 }

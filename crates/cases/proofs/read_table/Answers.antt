@@ -7,7 +7,7 @@ pub returns : goal.returns
 returns c =
     let bytes = c.args.bytes.now in
     let at = c.args.at in record {
-      end_le_farthest = c.read_words-end.ensures;
+      end_le_farthest = c.read_list-end.ensures;
       state_value = ten_numbers bytes at c.low_8-capacity.ensures
           (number_on bytes at 8 c.over-12.ensures.value c.low_8-8.ensures)
           (number_on bytes at 16 c.over-13.ensures.value c.low_8-9.ensures)

@@ -1,12 +1,8 @@
 -- SPDX-License-Identifier: Apache-2.0
--- `made_up::run_all` meets its contract. The invariant: both lists stay as long as they were. The measure is the number of cases that may
--- still come. Assumes nothing.
+-- Both lists stay as long as they were.
 use mathlib.Core.Path.{◌≡◌}
 use lib.ListN.{length}
 use Rattle.made_up.proofs.run_all.Given as goal
 
-abbrev pub invariant-loop-left : goal.invariant-loop-left
-invariant-loop-left g l = (length l.bytes ≡ length l.initial.bytes) × (length l.out ≡ length l.initial.out)
-
-abbrev pub decreases-loop-left : goal.decreases-loop-left
-decreases-loop-left g l = l.left
+abbrev pub invariant-loop : goal.invariant-loop
+invariant-loop g l = (length l.bytes ≡ length l.initial.bytes) × (length l.out ≡ length l.initial.out)

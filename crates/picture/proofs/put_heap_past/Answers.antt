@@ -1,19 +1,9 @@
 -- SPDX-License-Identifier: Apache-2.0
 -- `picture::put_heap_past` meets its contract. Assumes nothing.
-use mathlib.Core.Path.{◌∙◌}
 use Rattle.picture.specs.Table.{heap_past}
 use Rattle.picture_numbers.proofs.Laws.{numbers_joined}
 use Rattle.picture.proofs.put_heap_past.Goals as goal
 
-pub put_entries_past-a-requires : goal.put_entries_past-a-requires
-put_entries_past-a-requires c = tt
-
-pub put_words_past-requires : goal.put_words_past-requires
-put_words_past-requires c = tt
-
-pub shape_of-out : goal.shape_of-out
-shape_of-out c = c.put_words_past.ensures.size ∙ c.put_entries_past-a.ensures.size
-
 pub returns : goal.returns
 unfolding heap_past
-returns c = numbers_joined _ _ c.put_entries_past-a.ensures c.put_words_past.ensures
+returns c = numbers_joined _ _ c.put_list_past-a.ensures c.put_list_past.ensures

@@ -1,2 +1,2 @@
 -- SPDX-License-Identifier: Apache-2.0
-pub mod Fronts
+pub mod Laws

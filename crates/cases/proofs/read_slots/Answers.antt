@@ -1,2 +1,0 @@
--- SPDX-License-Identifier: Apache-2.0
--- `cases::read_slots` meets its contract. The invariant: the places that are left are within the list. Assumes nothing.

@@ -1,0 +1,8 @@
+-- SPDX-License-Identifier: Apache-2.0
+-- The places so far are written.
+use Rattle.picture_numbers.specs.Numbers.{spaced, below}
+use Rattle.picture_numbers.specs.Wrote.{Wrote}
+use Rattle.picture.proofs.put_list.Given as goal
+
+abbrev pub invariant-loop-place : goal.invariant-loop-place
+invariant-loop-place g l = Wrote l.initial.out l.at (spaced (below g.T.Place.stand l.place-index l.place-items)) l.to l.out

@@ -1,0 +1,28 @@
+-- SPDX-License-Identifier: Apache-2.0
+-- `picture::put_list_past` meets its contract. Assumes nothing.
+use Rattle.std.proofs.Common.{◌-◌, ◌≡◌, not, [], ◌∷◌, ◌∙◌, length, take, drop, rules}
+use Rattle.std.specs.List.{count_by}
+use Rattle.std.proofs.lemmas.List.{take_rest}
+use native.Mathlib.Omega.{arith}
+use mathlib.Core.Path.{ap}
+use mathlib.Core.Bool.{false}
+use Rattle.picture_numbers.specs.Numbers.{spaced, all_zero}
+use Rattle.picture_numbers.proofs.Laws.{wrote_as, numbers_joined}
+use Rattle.picture.proofs.Laws.{told_start, place_more, past_end, count_held}
+use Rattle.picture.proofs.put_list_past.Goals as goal
+
+pub loop-i-init : goal.loop-i-init
+loop-i-init g c = told_start g.T.Place.stand _ _ _ c.min-from.result (omega arith)
+
+pub loop-i-preserved : goal.loop-i-preserved
+loop-i-preserved g c =
+    place_more g.T.Place.stand false c.min-from.result _ _ c.index-behind-i.result (omega arith) c.index-behind-i.is c.loop-i.invariant c.put_place-to.ensures
+
+pub returns : goal.returns
+returns g c =
+    let f = g.T.Place.stand in
+    let xs = c.args.list.now in
+    let ys = take (length xs - c.min-from.result) (drop c.min-from.result xs) in
+    let n : c.count-held.result ≡ count_by (λ x. not (all_zero (f x))) ys = search rules in
+    wrote_as (ap spaced (past_end f xs ys c.args.length c.min-from.result c.loop-i.i c.count-held.result (omega arith) (take_rest xs c.min-from.result) (omega arith) (n ∙ count_held f ys)))
+    (numbers_joined (c.count-held.result ∷ []) _ c.put-to.ensures c.loop-i.invariant)

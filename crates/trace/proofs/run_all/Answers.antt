@@ -1,3 +1,0 @@
--- SPDX-License-Identifier: Apache-2.0
--- `trace::run_all` meets its contract. The invariant: both lists stay as long as they were. The measure is the number of blocks that may
--- still come. Assumes nothing.
