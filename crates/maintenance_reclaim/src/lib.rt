@@ -5,8 +5,7 @@
 // maintenance.rs, reclaim (`reclaim_batch`). It works on any table; a refusal hands back the table as it came.
 #![tactic(auto)]
 
-ghost use Rattle.std.specs.Prelude.{◌≡◌, true, ◌≤◌};
-ghost use Rattle.state.specs.Fresh.{sound};
+ghost use Rattle.std.specs.Prelude.{◌≡◌, ◌≤◌};
 ghost use Rattle.maintenance_reclaim.specs.Answers.{batch_after};
 ghost use Rattle.maintenance_reclaim.specs.Parts.{removed_answer};
 ghost use Rattle.maintenance_reclaim.specs.Reclaim.{no_slots, reclaim_from, unless_refused as unless_stopped, reclaim as reclaim_rule};
@@ -35,9 +34,9 @@ struct Removed {
 }
 
 // So many rounds: a victim is looked for afresh and removed. A refusal in a later round gives up the earlier removals too.
-#[tactic(auto, using(crate::proofs::Reclaims::round_refused, crate::proofs::Reclaims::round_none, crate::proofs::Reclaims::round_unclean, crate::proofs::Reclaims::round_stops, crate::proofs::Reclaims::round_on, crate::proofs::Reclaims::gone_sound, crate::proofs::Reclaims::victim_low, crate::proofs::Reclaims::rounds_end))]
+#[tactic(auto, using(crate::proofs::Reclaims::round_refused, crate::proofs::Reclaims::round_none, crate::proofs::Reclaims::round_stops, crate::proofs::Reclaims::round_on, crate::proofs::Reclaims::victim_low, crate::proofs::Reclaims::rounds_end))]
 fn reclaim_rounds(t: &State, rounds: usize, pins: &[u8]) -> Result<Removed, Refusal>
-    requires { (sound t.now ≡ true) × (rounds ≤ 64) }
+    requires { rounds ≤ 64 }
     ensures { removed_answer result ≡ reclaim_from rounds pins.now (record { table = t.now; count = 0; slots = no_slots }) }
 {
     let mut rest = *t;
@@ -51,12 +50,7 @@ fn reclaim_rounds(t: &State, rounds: usize, pins: &[u8]) -> Result<Removed, Refu
                 count,
             });
         };
-        if rest.slots[slot].kind != state::CLEAN {
-            return Err(Refusal::Stop);
-        }
-        let removed = state_remove::remove_clean(rest, slot);
-        removed.answer?;
-        rest = removed.state;
+        state_remove::remove(&mut rest, slot)?;
         slots[count] = slot as u16;
     }
     Ok(Removed {

@@ -2,19 +2,19 @@
 -- The loops of resize one slot on and at their ends, and what each step does with a slot. Assumes nothing.
 use Rattle.std.proofs.Common.{if◌then◌else◌}
 use Prim.Native.Nat.{ℕ, zero, suc, ◌+◌, ◌-◌, ◌≤◌, ◌<◌}
-use mathlib.Core.Path.{◌≡◌, refl, ◌∙◌, ap}
+use mathlib.Core.Path.{◌≡◌, refl, sym, ◌∙◌, ap}
 use mathlib.Core.Bool.{Bool, true, false}
 use mathlib.Core.List.{List, ◌∷◌}
 use mathlib.Core.Option.{Option, none, some}
 use native.Mathlib.Omega.{arith}
 use lib.Dec.{leb, ltb, eqb}
 use lib.ListN.{set, take, replicate}
-use borrow.Author.Tests.{leb-false, lt-ltb, le-ltb, le-leb, lt-leb, eq-eqb, ne_eqb}
+use borrow.Author.Tests.{leb-false, le-leb, lt-leb, eq-eqb, ne_eqb}
 use Rattle.basics.specs.Try.{Try, ok, refuse, ◌>>=◌, ◌>>◌, need}
 use Rattle.basics.specs.Refusals.{STOP}
 use Rattle.basics.specs.Numbers.{NONE}
 use Rattle.basics.specs.Lists.{each_slot}
-use Rattle.basics.proofs.Tests.{yes!, no!, is, one_less_lem, no_ltb, some_ltb, met}
+use Rattle.basics.proofs.Tests.{yes!, no!, is, no_ltb, some_ltb, met}
 use Rattle.key.specs.declared.CacheKey.{CacheKey}
 use Rattle.index.specs.Chain.{CHAIN, head_of, next_of}
 use Rattle.eviction.specs.Entries.{at}
@@ -27,6 +27,7 @@ use Rattle.state.proofs.Cases.{sound_sizes_lem}
 use Rattle.maintenance_restore.specs.Restore.{restore}
 use Rattle.maintenance_resize.specs.Move.{Moving, moving_of, leave_to, leave_pinned, drop_oldest, keep_new, restore_unless, restore_rest, move_or_remove, move_rest}
 use Rattle.maintenance_restore.proofs.Cases.{left_suc}
+use lib.Seq.{take-set-lt}
 
 -- ---- lists
 
@@ -38,18 +39,13 @@ take_same (suc n) (suc m) a l = ap (λ (r : List ℕ). a ∷ r) (take_same n m a
 
 -- ---- a step for each slot
 
-pub each_end : {A : Type 0} (step : ℕ → A → Try A) (c slot : ℕ) (a : A) {x : Try A} → c ≤ slot → each_slot step (c - slot) slot a ≡ x → ok a ≡ x
+each_end : {A : Type 0} (step : ℕ → A → Try A) (c slot : ℕ) (a : A) → c ≤ slot → each_slot step (c - slot) slot a ≡ ok a
 unfolding each_slot
-each_end step c slot a l e = let z : c - slot ≡ 0 = omega arith in rw z at e
+each_end step c slot a l = let z : c - slot ≡ 0 = omega arith in rw z
 
-module _ {A : Type 0} (step : ℕ → A → Try A) (c slot : ℕ) (a : A) {x : Try A} (l : slot < c) (e : each_slot step (c - slot) slot a ≡ x) where
-  pub each_on : {b : A} → step slot a ≡ ok b → each_slot step (c - (slot + 1)) (slot + 1) b ≡ x
-  unfolding each_slot
-  each_on f = rw (left_suc c slot l, f) at e
-
-  pub each_stops : {n : ℕ} → step slot a ≡ refuse n → refuse n ≡ x
-  unfolding each_slot
-  each_stops f = rw (left_suc c slot l, f) at e
+each_step : {A : Type 0} (step : ℕ → A → Try A) (c slot : ℕ) (a : A) → slot < c → each_slot step (c - slot) slot a ≡ (step slot a >>= λ b. each_slot step (c - (slot + 1)) (slot + 1) b)
+unfolding each_slot
+each_step step c slot a l = rw (left_suc c slot l)
 
 -- ---- a slot that peek_clean found is below the capacity
 
@@ -80,123 +76,129 @@ peek_from_low zero t key s x e = peek_last (eqb s NONE) t.capacity x e
 peek_from_low (suc n) t key s x e =
     peek_far (eqb s NONE) t.capacity s (clean_with (slot_at t s) key) x _ e (λ q. peek_from_low n t key (next_of t.index s) x q)
 
-pub peek_low : {x : ℕ} (t : State) (key : CacheKey) → peek_clean t key ≡ ok (some x) → x < 256
+pub peek_low : {x : ℕ} (t : State) (key : CacheKey) → ok (some x) ≡ peek_clean t key → x < 256
 unfolding peek_clean
 peek_low {x} t key e =
-    let a = met (sound t) STOP _ (some x) e in
+    let a = met (sound t) STOP _ (some x) (sym e) in
     omega (arith, peek_from_low CHAIN t key (head_of t.index key) x a.1, (sound_sizes_lem a.0).small)
 
--- ---- what each step does with a slot
-module _ (slot : ℕ) (old made : State) (list : List ℕ) where
-  pub leave_unclean : ((slot_at old slot).kind ≡ 2 → ⊥) → leave_pinned slot (moving_of old made list) ≡ ok (moving_of old made list)
+-- ---- the first loop, by what its step does with a slot
+module _ (c slot : ℕ) (old made : State) (list : List ℕ) where
+  abbrev leaving : ℕ → State → List ℕ → Try Moving
+  leaving s t l = each_slot leave_pinned (c - s) s (moving_of t made (take c l))
+
+  pub leave_end : c ≤ slot → leaving slot old list ≡ ok (moving_of old made (take c list))
+  leave_end l = each_end leave_pinned c slot (moving_of old made (take c list)) l
+
+  pub leave_unclean : slot < c → ((slot_at old slot).kind ≡ 2 → ⊥) → leaving slot old list ≡ leaving (slot + 1) old list
   unfolding leave_pinned
-  leave_unclean k = rw (ne_eqb (slot_at old slot).kind 2 k)
+  leave_unclean l k = each_step leave_pinned c slot (moving_of old made (take c list)) l ∙ rw (ne_eqb (slot_at old slot).kind 2 k)
 
-  pub rest_unclean : ((slot_at old slot).kind ≡ 2 → ⊥) → restore_rest slot (moving_of old made list) ≡ ok (moving_of old made list)
-  unfolding restore_rest
-  rest_unclean k = rw (ne_eqb (slot_at old slot).kind 2 k)
-
-  pub move_unclean : ((slot_at old slot).kind ≡ 2 → ⊥) → move_rest slot (moving_of old made list) ≡ ok (moving_of old made list)
-  unfolding move_rest
-  move_unclean k = rw (ne_eqb (slot_at old slot).kind 2 k)
-
-  module _ (k : (slot_at old slot).kind ≡ 2) where
-    pub leave_refused : {n : ℕ} → peek_clean made (slot_at old slot).key ≡ refuse n → leave_pinned slot (moving_of old made list) ≡ refuse n
+  module _ (l : slot < c) (k : (slot_at old slot).kind ≡ 2) where
+    pub leave_refused : {n : ℕ} → refuse n ≡ peek_clean made (slot_at old slot).key → leaving slot old list ≡ refuse n
     unfolding leave_pinned
-    leave_refused p = rw (eq-eqb (slot_at old slot).kind 2 k, p)
+    leave_refused p = each_step leave_pinned c slot (moving_of old made (take c list)) l ∙ rw (eq-eqb (slot_at old slot).kind 2 k, ← p)
 
-    pub rest_refused : {n : ℕ} → peek_clean made (slot_at old slot).key ≡ refuse n → restore_rest slot (moving_of old made list) ≡ refuse n
+    pub leave_absent : ok none ≡ peek_clean made (slot_at old slot).key → leaving slot old list ≡ leaving (slot + 1) old list
+    unfolding leave_pinned leave_to
+    leave_absent p = each_step leave_pinned c slot (moving_of old made (take c list)) l ∙ rw (eq-eqb (slot_at old slot).kind 2 k, ← p)
+
+    module _ {to : ℕ} (p : ok (some to) ≡ peek_clean made (slot_at old slot).key) where
+      pub leave_stops : {n : ℕ} → refuse n ≡ detach_clean old slot → leaving slot old list ≡ refuse n
+      unfolding leave_pinned leave_to
+      leave_stops d = each_step leave_pinned c slot (moving_of old made (take c list)) l ∙ rw (eq-eqb (slot_at old slot).kind 2 k, ← p, ← d)
+
+      pub leave_left : {u : State} → ok u ≡ detach_clean old slot → leaving slot old list ≡ leaving (slot + 1) u (set list slot to)
+      unfolding leave_pinned leave_to
+      leave_left d = each_step leave_pinned c slot (moving_of old made (take c list)) l ∙ rw (eq-eqb (slot_at old slot).kind 2 k, ← p, ← d, take-set-lt c list slot to l)
+
+-- ---- the second loop
+module _ (c slot : ℕ) (old made : State) (list : List ℕ) where
+  abbrev filling : ℕ → State → Try Moving
+  filling s t = each_slot restore_rest (c - s) s (moving_of old t list)
+
+  pub rest_end : c ≤ slot → filling slot made ≡ ok (moving_of old made list)
+  rest_end l = each_end restore_rest c slot (moving_of old made list) l
+
+  pub rest_unclean : slot < c → ((slot_at old slot).kind ≡ 2 → ⊥) → filling slot made ≡ filling (slot + 1) made
+  unfolding restore_rest
+  rest_unclean l k = each_step restore_rest c slot (moving_of old made list) l ∙ rw (ne_eqb (slot_at old slot).kind 2 k)
+
+  module _ (l : slot < c) (k : (slot_at old slot).kind ≡ 2) where
+    pub rest_refused : {n : ℕ} → refuse n ≡ peek_clean made (slot_at old slot).key → filling slot made ≡ refuse n
     unfolding restore_rest
-    rest_refused p = rw (eq-eqb (slot_at old slot).kind 2 k, p)
+    rest_refused p = each_step restore_rest c slot (moving_of old made list) l ∙ rw (eq-eqb (slot_at old slot).kind 2 k, ← p)
 
-    pub move_refused : {n : ℕ} → peek_clean made (slot_at old slot).key ≡ refuse n → move_rest slot (moving_of old made list) ≡ refuse n
+    pub rest_there : {to : ℕ} → ok (some to) ≡ peek_clean made (slot_at old slot).key → filling slot made ≡ filling (slot + 1) made
+    unfolding restore_rest restore_unless
+    rest_there p = each_step restore_rest c slot (moving_of old made list) l ∙ rw (eq-eqb (slot_at old slot).kind 2 k, ← p)
+
+    module _ (p : ok none ≡ peek_clean made (slot_at old slot).key) where
+      pub rest_stops : {n : ℕ} → refuse n ≡ restore made (slot_at old slot).key (slot_at old slot).last_access → filling slot made ≡ refuse n
+      unfolding restore_rest restore_unless
+      rest_stops r = each_step restore_rest c slot (moving_of old made list) l ∙ rw (eq-eqb (slot_at old slot).kind 2 k, ← p, ← r)
+
+      pub rest_full : ok none ≡ restore made (slot_at old slot).key (slot_at old slot).last_access → filling slot made ≡ filling (slot + 1) made
+      unfolding restore_rest restore_unless keep_new
+      rest_full r = each_step restore_rest c slot (moving_of old made list) l ∙ rw (eq-eqb (slot_at old slot).kind 2 k, ← p, ← r)
+
+      pub rest_restored : {u : State} → ok (some u) ≡ restore made (slot_at old slot).key (slot_at old slot).last_access → filling slot made ≡ filling (slot + 1) u
+      unfolding restore_rest restore_unless keep_new
+      rest_restored r = each_step restore_rest c slot (moving_of old made list) l ∙ rw (eq-eqb (slot_at old slot).kind 2 k, ← p, ← r)
+
+-- ---- the third loop
+module _ (c slot : ℕ) (old made : State) (list : List ℕ) where
+  abbrev moving : ℕ → State → List ℕ → Try Moving
+  moving s t l = each_slot move_rest (c - s) s (moving_of t made (take c l))
+
+  pub move_end : c ≤ slot → moving slot old list ≡ ok (moving_of old made (take c list))
+  move_end l = each_end move_rest c slot (moving_of old made (take c list)) l
+
+  pub move_unclean : slot < c → ((slot_at old slot).kind ≡ 2 → ⊥) → moving slot old list ≡ moving (slot + 1) old list
+  unfolding move_rest
+  move_unclean l k = each_step move_rest c slot (moving_of old made (take c list)) l ∙ rw (ne_eqb (slot_at old slot).kind 2 k)
+
+  module _ (l : slot < c) (k : (slot_at old slot).kind ≡ 2) where
+    pub move_refused : {n : ℕ} → refuse n ≡ peek_clean made (slot_at old slot).key → moving slot old list ≡ refuse n
     unfolding move_rest
-    move_refused p = rw (eq-eqb (slot_at old slot).kind 2 k, p)
+    move_refused p = each_step move_rest c slot (moving_of old made (take c list)) l ∙ rw (eq-eqb (slot_at old slot).kind 2 k, ← p)
 
-    module _ (p : peek_clean made (slot_at old slot).key ≡ ok none) where
-      pub leave_absent : leave_pinned slot (moving_of old made list) ≡ ok (moving_of old made list)
-      unfolding leave_pinned leave_to
-      leave_absent = rw (eq-eqb (slot_at old slot).kind 2 k, p)
+    pub move_moved : {to : ℕ} → ok (some to) ≡ peek_clean made (slot_at old slot).key → moving slot old list ≡ moving (slot + 1) old (set list slot to)
+    unfolding move_rest move_or_remove
+    move_moved {to} p = each_step move_rest c slot (moving_of old made (take c list)) l ∙ rw (eq-eqb (slot_at old slot).kind 2 k, ← p, take-set-lt c list slot to l)
 
-      pub rest_stops : {n : ℕ} → restore made (slot_at old slot).key (slot_at old slot).last_access ≡ refuse n → restore_rest slot (moving_of old made list) ≡ refuse n
-      unfolding restore_rest restore_unless
-      rest_stops r = rw (eq-eqb (slot_at old slot).kind 2 k, p, r)
-
-      pub rest_full : restore made (slot_at old slot).key (slot_at old slot).last_access ≡ ok none
-          → restore_rest slot (moving_of old made list) ≡ ok (moving_of old made list)
-      unfolding restore_rest restore_unless keep_new
-      rest_full r = rw (eq-eqb (slot_at old slot).kind 2 k, p, r)
-
-      pub rest_restored : {u : State} → restore made (slot_at old slot).key (slot_at old slot).last_access ≡ ok (some u)
-          → restore_rest slot (moving_of old made list) ≡ ok (moving_of old u list)
-      unfolding restore_rest restore_unless keep_new
-      rest_restored r = rw (eq-eqb (slot_at old slot).kind 2 k, p, r)
-
-      pub move_stops : {n : ℕ} → remove_clean old slot ≡ refuse n → move_rest slot (moving_of old made list) ≡ refuse n
+    module _ (p : ok none ≡ peek_clean made (slot_at old slot).key) where
+      pub move_stops : {n : ℕ} → refuse n ≡ remove_clean old slot → moving slot old list ≡ refuse n
       unfolding move_rest move_or_remove
-      move_stops r = rw (eq-eqb (slot_at old slot).kind 2 k, p, r)
+      move_stops r = each_step move_rest c slot (moving_of old made (take c list)) l ∙ rw (eq-eqb (slot_at old slot).kind 2 k, ← p, ← r)
 
-      pub move_removed : {u : State} → remove_clean old slot ≡ ok u → move_rest slot (moving_of old made list) ≡ ok (moving_of u made list)
+      pub move_removed : {u : State} → ok u ≡ remove_clean old slot → moving slot old list ≡ moving (slot + 1) u list
       unfolding move_rest move_or_remove
-      move_removed r = rw (eq-eqb (slot_at old slot).kind 2 k, p, r)
-
-    module _ {to : ℕ} (p : peek_clean made (slot_at old slot).key ≡ ok (some to)) where
-      pub leave_stops : {n : ℕ} → detach_clean old slot ≡ refuse n → leave_pinned slot (moving_of old made list) ≡ refuse n
-      unfolding leave_pinned leave_to
-      leave_stops d = rw (eq-eqb (slot_at old slot).kind 2 k, p, d)
-
-      pub leave_left : {u : State} → detach_clean old slot ≡ ok u → leave_pinned slot (moving_of old made list) ≡ ok (moving_of u made (set list slot to))
-      unfolding leave_pinned leave_to
-      leave_left d = rw (eq-eqb (slot_at old slot).kind 2 k, p, d)
-
-      pub rest_there : restore_rest slot (moving_of old made list) ≡ ok (moving_of old made list)
-      unfolding restore_rest restore_unless
-      rest_there = rw (eq-eqb (slot_at old slot).kind 2 k, p)
-
-      pub move_moved : move_rest slot (moving_of old made list) ≡ ok (moving_of old made (set list slot to))
-      unfolding move_rest move_or_remove
-      move_moved = rw (eq-eqb (slot_at old slot).kind 2 k, p)
+      move_removed r = each_step move_rest c slot (moving_of old made (take c list)) l ∙ rw (eq-eqb (slot_at old slot).kind 2 k, ← p, ← r)
 
 -- ---- the oldest keys, one round on, and at the end
-
-pub drop_end : (n : ℕ) (m : Moving) → n ≤ 0 → drop_oldest n m ≡ refuse STOP
+drop_step : (k i : ℕ) (old made : State) (list : List ℕ) → i < k
+    → drop_oldest (k - i) (moving_of old made list)
+    ≡ (if leb old.clean (made.capacity - made.clean) then ok (moving_of old made list) else
+    (need (ltb 0 old.eviction.len) STOP >> (remove_clean old (at old.eviction 0).slot >>= λ u. drop_oldest (k - (i + 1)) (moving_of u made list))))
 unfolding drop_oldest
-drop_end zero m l = refl
-drop_end (suc n) m l = absurd (omega arith)
+drop_step k i old made list l = rw (left_suc k i l)
 
-drop_step : (n : ℕ) (old made : State) (list : List ℕ) {room : ℕ} → 0 < n → room ≡ made.capacity - made.clean
-    → drop_oldest n (moving_of old made list)
-    ≡ (if leb old.clean room then ok (moving_of old made list) else
-    (need (ltb 0 old.eviction.len) STOP >> (remove_clean old (at old.eviction 0).slot >>= λ u. drop_oldest (n - 1) (moving_of u made list))))
-unfolding drop_oldest
-drop_step zero old made list l e = absurd (omega arith)
-drop_step (suc n) old made list l e = rw (one_less_lem n, e)
+module _ (k i : ℕ) (old made : State) (list : List ℕ) where
+  pub drop_end : k ≤ i → drop_oldest (k - i) (moving_of old made list) ≡ refuse STOP
+  unfolding drop_oldest
+  drop_end l = let z : k - i ≡ 0 = omega arith in rw z
 
-module _ (n : ℕ) (old made : State) (list : List ℕ) {room : ℕ} (l : 0 < n) (e : room ≡ made.capacity - made.clean) where
-  pub drop_fits : old.clean ≤ room → drop_oldest n (moving_of old made list) ≡ ok (moving_of old made list)
-  drop_fits h = drop_step n old made list l e ∙ rw (le-leb old.clean room h)
+  pub drop_fits : i < k → old.clean ≤ made.capacity - made.clean → drop_oldest (k - i) (moving_of old made list) ≡ ok (moving_of old made list)
+  drop_fits l h = drop_step k i old made list l ∙ rw (le-leb old.clean (made.capacity - made.clean) h)
 
-  module _ (h : room < old.clean) where
-    pub drop_none : old.eviction.len ≡ 0 → drop_oldest n (moving_of old made list) ≡ refuse STOP
-    drop_none z = drop_step n old made list l e ∙ rw (lt-leb old.clean room h, no_ltb old.eviction.len z)
+  module _ (l : i < k) (h : made.capacity - made.clean < old.clean) where
+    pub drop_none : old.eviction.len ≡ 0 → drop_oldest (k - i) (moving_of old made list) ≡ refuse STOP
+    drop_none z = drop_step k i old made list l ∙ rw (lt-leb old.clean (made.capacity - made.clean) h, no_ltb old.eviction.len z)
 
     module _ (z : old.eviction.len ≡ 0 → ⊥) where
-      pub drop_past : old.capacity ≤ (at old.eviction 0).slot → drop_oldest n (moving_of old made list) ≡ refuse STOP
-      unfolding remove_clean detach_clean
-      drop_past b =
-          drop_step n old made list l e
-          ∙ rw (lt-leb old.clean room h, some_ltb old.eviction.len z, le-ltb (at old.eviction 0).slot old.capacity b)
+      pub drop_stops : {n : ℕ} → refuse n ≡ remove_clean old (at old.eviction 0).slot → drop_oldest (k - i) (moving_of old made list) ≡ refuse n
+      drop_stops r = drop_step k i old made list l ∙ rw (lt-leb old.clean (made.capacity - made.clean) h, some_ltb old.eviction.len z, ← r)
 
-      pub drop_unclean : (at old.eviction 0).slot < old.capacity → ((slot_at old (at old.eviction 0).slot).kind ≡ 2 → ⊥)
-          → drop_oldest n (moving_of old made list) ≡ refuse STOP
-      unfolding remove_clean detach_clean
-      drop_unclean b k =
-          drop_step n old made list l e
-          ∙ rw (lt-leb old.clean room h, some_ltb old.eviction.len z, lt-ltb (at old.eviction 0).slot old.capacity b, ne_eqb (slot_at old (at old.eviction 0).slot).kind 2 k)
-
-      pub drop_stops : {m : ℕ} → remove_clean old (at old.eviction 0).slot ≡ refuse m → drop_oldest n (moving_of old made list) ≡ refuse m
-      drop_stops r = drop_step n old made list l e ∙ rw (lt-leb old.clean room h, some_ltb old.eviction.len z, r)
-
-      pub drop_on : {u : State} → remove_clean old (at old.eviction 0).slot ≡ ok u
-          → drop_oldest n (moving_of old made list) ≡ drop_oldest (n - 1) (moving_of u made list)
-      drop_on r = drop_step n old made list l e ∙ rw (lt-leb old.clean room h, some_ltb old.eviction.len z, r)
+      pub drop_on : {u : State} → ok u ≡ remove_clean old (at old.eviction 0).slot → drop_oldest (k - i) (moving_of old made list) ≡ drop_oldest (k - (i + 1)) (moving_of u made list)
+      drop_on r = drop_step k i old made list l ∙ rw (lt-leb old.clean (made.capacity - made.clean) h, some_ltb old.eviction.len z, ← r)

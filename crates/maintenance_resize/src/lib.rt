@@ -6,162 +6,88 @@
 // came.
 #![tactic(auto)]
 
-ghost use Rattle.std.specs.Prelude.{◌≡◌, true, ◌&&◌, eqb, ltb, ◌≤◌, ◌<◌, length, take};
-ghost use Rattle.state.specs.Fresh.{sound};
+ghost use Rattle.std.specs.Prelude.{◌≡◌, ◌≤◌, ◌<◌, length};
 ghost use Rattle.maintenance_resize.specs.Answers.{maintained_after};
 ghost use Rattle.maintenance_resize.specs.Resize.{unless_refused, resize_to, resize as resize_rule};
 
 mod remake;
 
-use basics::Done;
-use maintenance_restore::restore::Fit;
-use state::State;
+use basics::Refusal;
+use maintenance_restore::{pins, restore};
+use state::{Outcome, State};
 
 // The answer of resize; `Resized` has the new capacity.
-#[derive(Clone, Copy)]
+#[derive(Clone, Copy, Debug, PartialEq, Eq)]
 pub enum Maintenance {
     Unchanged,
     Busy,
     Resized(usize),
-    Refused(u8),
-}
-
-#[derive(Clone, Copy)]
-pub struct Maintained {
-    pub state: State,
-    pub answer: Maintenance,
-}
-
-// The lent list gets the first of these numbers.
-fn write_list(list: &mut [u16], slots: [u16; 256])
-    requires { length list.old ≤ 256 }
-    ensures { list.new ≡ take (length list.old) slots }
-{
-    let mut i: usize = 0;
-    while i < list.len() {
-        list[i] = slots[i];
-        i += 1;
-    }
-}
-
-// Whether an empty table shrinks.
-fn empties(clean: usize, capacity: usize, old: usize) -> bool
-    ensures { result ≡ eqb clean 0 && ltb capacity old }
-{
-    if clean != 0 {
-        return false;
-    }
-    capacity < old
 }
 
 // From the raised capacity on.
-fn resize_to(t: State, pins: &[u8], list: &mut [u16], capacity: usize) -> Maintained
-    requires { ((sound t ≡ true) × (length pins.now ≡ t.capacity))
-        × ((length list.old ≡ t.capacity) × ((0 < capacity) × (capacity ≤ 256))) }
-    ensures { maintained_after result list.new
-        ≡ unless_refused t list.old (resize_to t pins.now list.old capacity) }
+#[tactic(auto, using(basics::proofs::Tests::tests), unfolding(crate::specs::Resize::resize_to, crate::specs::Resize::fresh_start, crate::specs::Resize::remake_or_busy))]
+fn resize_to(
+    t: &mut State,
+    pins: &[u8],
+    list: &mut [u16],
+    capacity: usize,
+) -> Result<Maintenance, Refusal>
+    requires { ((t.old.capacity ≤ 256) × (length pins.now ≡ t.old.capacity))
+        × ((length list.old ≡ t.old.capacity) × ((0 < capacity) × (capacity ≤ 256))) }
+    ensures { maintained_after (record { state = t.new; answer = result }) list.new
+        ≡ unless_refused t.old list.old (resize_to t.old pins.now list.old capacity) }
 {
     if capacity == t.capacity {
-        return Maintained {
-            state: t,
-            answer: Maintenance::Unchanged,
-        };
+        return Ok(Maintenance::Unchanged);
     }
-    if empties(t.clean, capacity, t.capacity) {
-        let started = State::try_new(capacity);
-        let fresh = started.state;
-        let none: [u16; 256] = [basics::NONE; 256];
-        write_list(list, none);
-        return Maintained {
-            state: fresh,
-            answer: Maintenance::Resized(capacity),
-        };
+    if t.clean == 0 && capacity < t.capacity {
+        list.fill(basics::NONE);
+        *t = restore::fresh(capacity);
+        return Ok(Maintenance::Resized(capacity));
     }
-    let shrinking = capacity < t.capacity;
-    let chosen = maintenance_restore::restore::candidate(t, pins, shrinking, capacity);
-    let fit = chosen.answer;
-    match fit {
-        Fit::Refused(why) => Maintained {
-            state: t,
-            answer: Maintenance::Refused(why),
-        },
-        Fit::No => Maintained {
-            state: t,
-            answer: Maintenance::Busy,
-        },
-        Fit::Yes => {
-            let new = chosen.state;
-            let made = remake::remake(t, new);
-            let done = made.answer;
-            if let Done::Refused(why) = done {
-                return Maintained {
-                    state: t,
-                    answer: Maintenance::Refused(why),
-                };
-            }
-            let slots = made.list;
-            write_list(list, slots);
-            let state = made.state;
-            Maintained {
-                state: state,
-                answer: Maintenance::Resized(state.capacity),
-            }
-        }
+    let Some(new) = restore::candidate(t, pins, capacity < t.capacity, capacity)? else {
+        return Ok(Maintenance::Busy);
+    };
+    let made = remake::remake(t, new)?;
+    list.copy_from_slice(&made.list[..list.len()]);
+    *t = made.state;
+    Ok(Maintenance::Resized(t.capacity))
+}
+
+// The tests, then from the raised capacity on. Where it refuses, table and list are as they came.
+#[tactic(auto, using(basics::proofs::Tests::tests, state::proofs::Cases::sound_sizes_lem, basics::proofs::Capacities::capacity_fits), unfolding(crate::specs::Resize::resize, crate::specs::Resize::resize_steps))]
+fn resize_tested(
+    t: &mut State,
+    asked: usize,
+    pins: &[u8],
+    list: &mut [u16],
+) -> Result<Maintenance, Refusal>
+    ensures { maintained_after (record { state = t.new; answer = result }) list.new ≡ resize_rule t.old asked pins.now list.old }
+{
+    t.check_sound()?;
+    basics::check_capacity(asked)?;
+    if pins.len() != t.capacity {
+        return Err(Refusal::Pins);
     }
+    if list.len() != t.capacity {
+        return Err(Refusal::List);
+    }
+    if asked == t.capacity {
+        return Ok(Maintenance::Unchanged);
+    }
+    if 0 < t.loading {
+        return Ok(Maintenance::Busy);
+    }
+    if !pins::pins_clean(t, pins) {
+        return Err(Refusal::Unclean);
+    }
+    resize_to(t, pins, list, pins::raised(asked, pins))
 }
 
 // The Rust's `maintain_capacity` after its gate.
-pub fn resize(t: State, asked: usize, pins: &[u8], list: &mut [u16]) -> Maintained
+pub fn resize(mut t: State, asked: usize, pins: &[u8], list: &mut [u16]) -> Outcome<Maintenance>
     ensures { maintained_after result list.new ≡ resize_rule t asked pins.now list.old }
 {
-    if !state::sound(
-        t.capacity,
-        t.index.buckets,
-        t.index.free_len,
-        t.eviction.len,
-    ) {
-        return Maintained {
-            state: t,
-            answer: Maintenance::Refused(basics::STOP),
-        };
-    }
-    let checked = basics::check_capacity(asked);
-    if let Done::Refused(why) = checked {
-        return Maintained {
-            state: t,
-            answer: Maintenance::Refused(why),
-        };
-    }
-    if pins.len() != t.capacity {
-        return Maintained {
-            state: t,
-            answer: Maintenance::Refused(basics::PINS),
-        };
-    }
-    if list.len() != t.capacity {
-        return Maintained {
-            state: t,
-            answer: Maintenance::Refused(basics::LIST),
-        };
-    }
-    if asked == t.capacity {
-        return Maintained {
-            state: t,
-            answer: Maintenance::Unchanged,
-        };
-    }
-    if 0 < t.loading {
-        return Maintained {
-            state: t,
-            answer: Maintenance::Busy,
-        };
-    }
-    if !maintenance_restore::pins::pins_clean(t, pins) {
-        return Maintained {
-            state: t,
-            answer: Maintenance::Refused(basics::UNCLEAN),
-        };
-    }
-    let capacity = maintenance_restore::pins::raised(asked, pins);
-    resize_to(t, pins, list, capacity)
+    let answer = resize_tested(&mut t, asked, pins, list);
+    Outcome { state: t, answer }
 }

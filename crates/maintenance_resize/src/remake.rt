@@ -2,288 +2,134 @@
 // SPDX-License-Identifier: Apache-2.0
 // Ported from src/fs/cache/maintenance.rs of HypeR-Proj/kernel at 53afd06a1d, changed; see NOTICE.
 
-// maintenance.rs, the steps from the new table with the pinned keys on: what leaves the old table, what the new one takes, and the list.
-ghost use Rattle.std.specs.Prelude.{◌≡◌, true, List, ℕ, ◌-◌, ◌≤◌, take, replicate};
-ghost use Rattle.basics.specs.Numbers.{NONE};
+// maintenance.rs, the steps from the new table with the pinned keys on: what leaves the old table, what the new one takes, and the list. They work in
+// place, on copies that a refusal drops. The three loops over the old slots stay apart: a closure for what each does with a slot was no plainer.
+ghost use Rattle.std.specs.Prelude.{◌≡◌, List, ℕ, ◌≤◌, take};
 ghost use Rattle.basics.specs.Lists.{each_slot};
-ghost use Rattle.state.specs.declared.State.{State};
-ghost use Rattle.state.specs.Fresh.{sound};
-ghost use Rattle.maintenance_resize.specs.Parts.{tried, old_answer, remade_answer};
+ghost use Rattle.state_remove.specs.Answers.{tried};
+ghost use Rattle.maintenance_resize.specs.Parts.{remade_answer};
 ghost use Rattle.maintenance_resize.specs.Move.{moving_of, leave_pinned, drop_oldest, restore_rest, move_rest, inherit as inherit_rule, remake as remake_rule};
 
-use basics::Done;
-use maintenance_restore::restore::{Fit, restore};
-use state::{Finished, Found, State};
+use basics::Refusal;
+use maintenance_restore::restore::restore;
+use state::State;
 
 // A table with a list of slots, one for each slot of the old table.
 #[derive(Clone, Copy)]
 pub(crate) struct Listed {
     pub(crate) state: State,
     pub(crate) list: [u16; 256],
-    pub(crate) answer: Done,
 }
 
 // The keys that the new table has leave the old one. The list says where they are.
-fn leave_pinned(mut old: State, new: State) -> Listed
-    requires { sound old ≡ true }
-    ensures result_value { old_answer old.capacity new result ≡ each_slot leave_pinned old.capacity 0 (moving_of old new (replicate old.capacity NONE)) }
-    ensures state_value { (sound result.state ≡ true) × (result.state.capacity ≡ old.capacity) }
+#[tactic(auto, using(crate::proofs::Moves::peek_low, crate::proofs::Moves::leave_unclean, crate::proofs::Moves::leave_refused, crate::proofs::Moves::leave_absent, crate::proofs::Moves::leave_stops, crate::proofs::Moves::leave_left, crate::proofs::Moves::leave_end))]
+fn leave_pinned(old: &mut State, new: &State, list: &mut [u16; 256]) -> Result<(), Refusal>
+    requires { old.old.capacity ≤ 256 }
+    ensures value { tried (moving_of old.new new.now (take old.old.capacity list.new)) result
+        ≡ each_slot leave_pinned old.old.capacity 0 (moving_of old.old new.now (take old.old.capacity list.old)) }
+    ensures size { old.new.capacity ≡ old.old.capacity }
 {
     let capacity = old.capacity;
-    let mut list: [u16; 256] = [basics::NONE; 256];
-    let mut slot: usize = 0;
-    while slot < capacity {
-        let at = slot;
-        slot += 1;
-        let entry = old.slots[at];
-        if entry.kind == state::CLEAN {
-            let key = entry.key;
-            let found = state_search::peek_clean(new, key);
-            match found {
-                Found::Refused(why) => {
-                    return Listed {
-                        state: old,
-                        list: list,
-                        answer: Done::Refused(why),
-                    };
-                }
-                Found::Nothing => {}
-                Found::At(to) => {
-                    let left = state_remove::detach_clean(old, at);
-                    let answer = left.answer;
-                    if let Done::Refused(why) = answer {
-                        return Listed {
-                            state: old,
-                            list: list,
-                            answer: Done::Refused(why),
-                        };
-                    }
-                    old = left.state;
-                    list[at] = to as u16;
-                }
-            }
-        }
-    }
-    Listed {
-        state: old,
-        list: list,
-        answer: Done::Done,
-    }
-}
-
-// How many more clean slots a table takes.
-fn room_left(capacity: usize, clean: usize) -> usize
-    ensures { result ≡ capacity - clean }
-{
-    if capacity < clean {
-        return 0;
-    }
-    capacity - clean
-}
-
-// The oldest keys are removed until the rest fits.
-fn drop_oldest(mut old: State, room: usize) -> Finished
-    requires { sound old ≡ true }
-    ensures answer_value { (new : State) (list : List ℕ) → room ≡ new.capacity - new.clean
-        → tried (moving_of result.state new list) result.answer ≡ drop_oldest 257 (moving_of old new list) }
-    ensures state_value { (sound result.state ≡ true) × (result.state.capacity ≡ old.capacity) }
-{
-    let mut left: usize = 257;
-    while 0 < left {
-        left -= 1;
-        if old.clean <= room {
-            return Finished {
-                state: old,
-                answer: Done::Done,
-            };
-        }
-        let heap = old.eviction;
-        if heap.len == 0 {
-            return Finished {
-                state: old,
-                answer: Done::Refused(basics::STOP),
-            };
-        }
-        let root = heap.entries[0];
-        let slot = root.slot as usize;
-        if old.capacity <= slot {
-            return Finished {
-                state: old,
-                answer: Done::Refused(basics::STOP),
-            };
-        }
+    for slot in 0..capacity {
         let entry = old.slots[slot];
         if entry.kind != state::CLEAN {
-            return Finished {
-                state: old,
-                answer: Done::Refused(basics::STOP),
-            };
+            continue;
         }
-        let removed = state_remove::remove_clean(old, slot);
-        let answer = removed.answer;
-        if let Done::Refused(why) = answer {
-            return Finished {
-                state: old,
-                answer: Done::Refused(why),
-            };
+        if let Some(to) = state_search::peek(new, entry.key)? {
+            state_remove::detach(old, slot)?;
+            list[slot] = to as u16;
         }
-        old = removed.state;
     }
-    Finished {
-        state: old,
-        answer: Done::Refused(basics::STOP),
+    Ok(())
+}
+
+// More than are needed: a heap has at most 256 keys.
+const ROUNDS: usize = 257;
+
+// The oldest keys are removed until the rest fits into the new table.
+#[tactic(auto, using(crate::proofs::Moves::drop_end, crate::proofs::Moves::drop_fits, crate::proofs::Moves::drop_none, crate::proofs::Moves::drop_stops, crate::proofs::Moves::drop_on))]
+fn drop_oldest(old: &mut State, new: &State) -> Result<(), Refusal>
+    requires { old.old.capacity ≤ 256 }
+    ensures value { (list : List ℕ) → tried (moving_of old.new new.now list) result ≡ drop_oldest 257 (moving_of old.old new.now list) }
+    ensures size { old.new.capacity ≡ old.old.capacity }
+{
+    let room = new.capacity.saturating_sub(new.clean);
+    for round in 0..ROUNDS {
+        if old.clean <= room {
+            return Ok(());
+        }
+        if old.eviction.len == 0 {
+            return Err(Refusal::Stop);
+        }
+        let slot = basics::wide(old.eviction.entries[0].slot);
+        state_remove::remove(old, slot)?;
     }
+    Err(Refusal::Stop)
 }
 
 // The rest of the old table's keys are restored in old slot order, where a chain takes them.
-fn restore_rest(old: State, made: State) -> Finished
-    requires { old.capacity ≤ 256 }
-    ensures { (list : List ℕ)
-        → tried (moving_of old result.state list) result.answer ≡ each_slot restore_rest old.capacity 0 (moving_of old made list) }
+#[tactic(auto, using(crate::proofs::Moves::rest_unclean, crate::proofs::Moves::rest_refused, crate::proofs::Moves::rest_there, crate::proofs::Moves::rest_stops, crate::proofs::Moves::rest_full, crate::proofs::Moves::rest_restored, crate::proofs::Moves::rest_end))]
+fn restore_rest(old: &State, new: &mut State) -> Result<(), Refusal>
+    requires { old.now.capacity ≤ 256 }
+    ensures { (list : List ℕ) → tried (moving_of old.now new.new list) result ≡ each_slot restore_rest old.now.capacity 0 (moving_of old.now new.old list) }
 {
-    let mut new = made;
-    let mut slot: usize = 0;
-    while slot < old.capacity {
-        let at = slot;
-        slot += 1;
-        let entry = old.slots[at];
-        if entry.kind == state::CLEAN {
-            let key = entry.key;
-            let found = state_search::peek_clean(new, key);
-            match found {
-                Found::Refused(why) => {
-                    return Finished {
-                        state: new,
-                        answer: Done::Refused(why),
-                    };
-                }
-                Found::At(_) => {}
-                Found::Nothing => {
-                    let restored = restore(new, key, entry.last_access);
-                    let fit = restored.answer;
-                    match fit {
-                        Fit::Refused(why) => {
-                            return Finished {
-                                state: new,
-                                answer: Done::Refused(why),
-                            };
-                        }
-                        Fit::No => {}
-                        Fit::Yes => {
-                            new = restored.state;
-                        }
-                    }
-                }
-            }
+    for slot in 0..old.capacity {
+        let entry = old.slots[slot];
+        if entry.kind != state::CLEAN || state_search::peek(new, entry.key)?.is_some() {
+            continue;
+        }
+        if let Some(grown) = restore(*new, entry.key, entry.last_access)? {
+            *new = grown;
         }
     }
-    Finished {
-        state: new,
-        answer: Done::Done,
-    }
+    Ok(())
 }
 
 // The keys left in the old table: the list says where the new table has them, and those that a chain refused are removed.
-fn move_rest(mut old: State, new: State, slots: [u16; 256]) -> Listed
-    requires { sound old ≡ true }
-    ensures { old_answer old.capacity new result ≡ each_slot move_rest old.capacity 0 (moving_of old new (take old.capacity slots)) }
+#[tactic(auto, using(crate::proofs::Moves::peek_low, crate::proofs::Moves::move_unclean, crate::proofs::Moves::move_refused, crate::proofs::Moves::move_moved, crate::proofs::Moves::move_stops, crate::proofs::Moves::move_removed, crate::proofs::Moves::move_end))]
+fn move_rest(old: &mut State, new: &State, list: &mut [u16; 256]) -> Result<(), Refusal>
+    requires { old.old.capacity ≤ 256 }
+    ensures { tried (moving_of old.new new.now (take old.old.capacity list.new)) result
+        ≡ each_slot move_rest old.old.capacity 0 (moving_of old.old new.now (take old.old.capacity list.old)) }
 {
     let capacity = old.capacity;
-    let mut list = slots;
-    let mut slot: usize = 0;
-    while slot < capacity {
-        let at = slot;
-        slot += 1;
-        let entry = old.slots[at];
-        if entry.kind == state::CLEAN {
-            let key = entry.key;
-            let found = state_search::peek_clean(new, key);
-            match found {
-                Found::Refused(why) => {
-                    return Listed {
-                        state: old,
-                        list: list,
-                        answer: Done::Refused(why),
-                    };
-                }
-                Found::At(there) => {
-                    list[at] = there as u16;
-                }
-                Found::Nothing => {
-                    let removed = state_remove::remove_clean(old, at);
-                    let answer = removed.answer;
-                    if let Done::Refused(why) = answer {
-                        return Listed {
-                            state: old,
-                            list: list,
-                            answer: Done::Refused(why),
-                        };
-                    }
-                    old = removed.state;
-                }
-            }
+    for slot in 0..capacity {
+        let entry = old.slots[slot];
+        if entry.kind != state::CLEAN {
+            continue;
+        }
+        if let Some(to) = state_search::peek(new, entry.key)? {
+            list[slot] = to as u16;
+        } else {
+            state_remove::remove(old, slot)?;
         }
     }
-    Listed {
-        state: old,
-        list: list,
-        answer: Done::Done,
-    }
+    Ok(())
 }
 
 // The Rust's `inherit_history`.
-fn inherit(mut new: State, old: State) -> State
-    ensures { result ≡ inherit_rule new old }
+#[tactic(auto, unfolding(crate::specs::Move::inherit))]
+fn inherit(new: &mut State, old: &State)
+    ensures { new.new ≡ inherit_rule new.old old.now }
 {
-    let counters = old.counters;
     new.next_load_generation = old.next_load_generation;
     new.next_access_sequence = old.next_access_sequence;
-    new.counters = counters;
-    new
+    new.counters = old.counters;
 }
 
 // From the new table with the pinned keys on: the steps that remake the table.
-pub(crate) fn remake(old: State, new: State) -> Listed
-    requires { sound old ≡ true }
-    ensures { remade_answer old.capacity result ≡ remake_rule old new }
+#[tactic(auto, using(crate::proofs::Resizes::remake_unleft))]
+pub(crate) fn remake(old: &State, new: State) -> Result<Listed, Refusal>
+    requires { old.now.capacity ≤ 256 }
+    ensures { remade_answer old.now.capacity result ≡ remake_rule old.now new }
 {
-    let left = leave_pinned(old, new);
-    let out = left.answer;
-    if let Done::Refused(_) = out {
-        return left;
-    }
-    let rest = left.state;
-    let list = left.list;
-    let dropped = drop_oldest(rest, room_left(new.capacity, new.clean));
-    let fits = dropped.answer;
-    if let Done::Refused(why) = fits {
-        return Listed {
-            state: new,
-            list: list,
-            answer: Done::Refused(why),
-        };
-    }
-    let kept = dropped.state;
-    let filled = restore_rest(kept, new);
-    let restored = filled.answer;
-    if let Done::Refused(why) = restored {
-        return Listed {
-            state: new,
-            list: list,
-            answer: Done::Refused(why),
-        };
-    }
-    let made = filled.state;
-    let settled = move_rest(kept, made, list);
-    let moved = settled.answer;
-    if let Done::Refused(_) = moved {
-        return settled;
-    }
-    let last = settled.state;
-    let slots = settled.list;
-    Listed {
-        state: inherit(made, last),
-        list: slots,
-        answer: Done::Done,
-    }
+    let mut rest = *old;
+    let mut state = new;
+    let mut list = [basics::NONE; 256];
+    leave_pinned(&mut rest, &state, &mut list)?;
+    drop_oldest(&mut rest, &state)?;
+    restore_rest(&rest, &mut state)?;
+    move_rest(&mut rest, &state, &mut list)?;
+    inherit(&mut state, &rest);
+    Ok(Listed { state, list })
 }

@@ -6,17 +6,55 @@
 // not. Every call works on any table; a refusal hands the table back as it came.
 #![tactic(auto)]
 
-ghost use Rattle.std.specs.Prelude.{◌≡◌};
+ghost use Rattle.std.specs.Prelude.{◌≡◌, ◌≤◌, true, MatchResult, OnErr, OnOk};
+ghost use Rattle.basics.specs.Try.{ok, refuse};
+ghost use Rattle.basics.specs.Answers.{number};
+ghost use Rattle.state_remove.specs.Answers.{tried};
 ghost use Rattle.state.specs.Answers.{finished_after};
-ghost use Rattle.state.specs.Remove.{detach_counted as detach_counted_rule, detach, remove};
+ghost use Rattle.state.specs.Remove.{detach_clean, remove_clean, need_clean, detach as detach_rule, remove as remove_rule};
 
 use basics::Refusal;
-use state::{Counters, Outcome, State};
+use state::{Outcome, State};
 
-// A clean slot's key leaves the heap and its chain, and the slot goes onto the stack; the counters are those given.
-#[tactic(auto, using(basics::proofs::Tests::tests), unfolding(state::specs::Remove::detach_counted, state::specs::Remove::need_clean, state::specs::Remove::detach_clean))]
-fn detach_counted(t: &mut State, slot: usize, counters: Counters) -> Result<(), Refusal>
-    ensures { finished_after record { state = t.new; answer = result } ≡ detach_counted_rule t.old slot counters }
+// A clean slot's key leaves the heap and its chain, and the slot goes onto the stack. In place, as resize detaches.
+#[tactic(auto, using(basics::proofs::Tests::tests), unfolding(state::specs::Remove::detach_clean))]
+pub fn detach(t: &mut State, slot: usize) -> Result<(), Refusal>
+    requires { t.old.capacity ≤ 256 }
+    ensures value { tried t.new result ≡ detach_clean t.old slot }
+    ensures kept { OnErr result (t.new ≡ t.old) }
+    ensures size { t.new.capacity ≡ t.old.capacity }
+{
+    if t.capacity <= slot || t.slots[slot].kind != state::CLEAN {
+        return Err(Refusal::Stop);
+    }
+    let heap = eviction_sift::remove(t.eviction, t.capacity, slot)?;
+    let index = index_chains::vacate(t.capacity, t.index, t.slots[slot].key, slot)?;
+    let clean = t.clean.checked_sub(1).ok_or(Refusal::Stop)?;
+    t.eviction = heap;
+    t.index = index;
+    t.slots[slot] = state::vacant_slot();
+    t.clean = clean;
+    Ok(())
+}
+
+// Removing counts an eviction. In place, as reclaim and resize remove.
+#[tactic(auto, unfolding(state::specs::Remove::remove_clean))]
+pub fn remove(t: &mut State, slot: usize) -> Result<(), Refusal>
+    requires { t.old.capacity ≤ 256 }
+    ensures value { tried t.new result ≡ remove_clean t.old slot }
+    ensures kept { OnErr result (t.new ≡ t.old) }
+    ensures size { t.new.capacity ≡ t.old.capacity }
+{
+    detach(t, slot)?;
+    t.counters.evictions = basics::one_more(t.counters.evictions);
+    Ok(())
+}
+
+// The tests of the table's calls, which know no more of a slot than its number.
+#[tactic(auto, using(basics::proofs::Tests::tests), unfolding(state::specs::Remove::need_clean))]
+fn check_clean(t: &State, slot: usize) -> Result<(), Refusal>
+    ensures value { MatchResult result (λ _. need_clean t.now slot ≡ ok true) (λ why. need_clean t.now slot ≡ refuse (number why)) }
+    ensures bound { OnOk result (t.now.capacity ≤ 256) }
 {
     t.check_sound()?;
     if t.capacity <= slot {
@@ -25,36 +63,29 @@ fn detach_counted(t: &mut State, slot: usize, counters: Counters) -> Result<(), 
     if t.slots[slot].kind != state::CLEAN {
         return Err(Refusal::Unclean);
     }
-    let heap = eviction_sift::remove(t.eviction, t.capacity, slot)?;
-    let index = index_chains::vacate(t.capacity, t.index, t.slots[slot].key, slot)?;
-    let clean = t.clean.checked_sub(1).ok_or(Refusal::Stop)?;
-    t.eviction = heap;
-    t.index = index;
-    t.slots[slot] = state::vacant_slot();
-    t.counters = counters;
-    t.clean = clean;
     Ok(())
 }
 
 // Removing counts an eviction.
-#[tactic(auto, using(crate::proofs::Cases::remove_counted))]
+#[tactic(auto, unfolding(state::specs::Remove::remove))]
 pub fn remove_clean(mut t: State, slot: usize) -> Outcome<()>
-    ensures { finished_after result ≡ remove t slot }
+    ensures { finished_after result ≡ remove_rule t slot }
 {
-    let counters = Counters {
-        evictions: basics::one_more(t.counters.evictions),
-        ..t.counters
-    };
-    let answer = detach_counted(&mut t, slot, counters);
+    let mut answer = check_clean(&t, slot);
+    if answer.is_ok() {
+        answer = remove(&mut t, slot);
+    }
     Outcome { state: t, answer }
 }
 
 // Detaching does not.
-#[tactic(auto, using(crate::proofs::Cases::detach_counted_lem))]
+#[tactic(auto, unfolding(state::specs::Remove::detach))]
 pub fn detach_clean(mut t: State, slot: usize) -> Outcome<()>
-    ensures { finished_after result ≡ detach t slot }
+    ensures { finished_after result ≡ detach_rule t slot }
 {
-    let counters = t.counters;
-    let answer = detach_counted(&mut t, slot, counters);
+    let mut answer = check_clean(&t, slot);
+    if answer.is_ok() {
+        answer = detach(&mut t, slot);
+    }
     Outcome { state: t, answer }
 }

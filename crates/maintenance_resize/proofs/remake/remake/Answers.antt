@@ -1,24 +1,29 @@
 -- SPDX-License-Identifier: Apache-2.0
 -- `remake::remake` meets its contract. Assumes nothing.
-use mathlib.Core.Path.{◌∙◌}
-use Rattle.state.proofs.Cases.{sound_sizes_lem}
-use Rattle.maintenance_resize.proofs.Resizes.{remake_unleft, remake_undropped, remake_unfilled, remake_unmoved, remake_done}
+use mathlib.Core.Path.{sym, ◌∙◌}
+use native.Mathlib.Omega.{arith}
+use Rattle.std.proofs.lemmas.Grind.{common_steps}
+use Rattle.maintenance_resize.proofs.Resizes.{remake_undropped, remake_unfilled, remake_unmoved, remake_done}
 use Rattle.maintenance_resize.proofs.remake.remake.Goals as goal
 
-pub returns-in-Refused : goal.returns-in-Refused
-returns-in-Refused c = remake_unleft _ _ c.leave_pinned-left.result c.leave_pinned-left.ensures.result_value c.in-Refused.is
+pub returns-in_err-drop_oldest : goal.returns-in_err-drop_oldest
+returns-in_err-drop_oldest c =
+    let e = remake_undropped _ _ c.requires c.leave_pinned.new.list c.in_ok-leave_pinned.ensures.value (c.in_err-drop_oldest.ensures.value _) in
+    grind (arith, common_steps)
 
-pub returns-in-Refused-fits : goal.returns-in-Refused-fits
-returns-in-Refused-fits c = remake_undropped _ _ c.leave_pinned-left.result c.leave_pinned-left.ensures.result_value c.in_default.is c.drop_oldest-dropped.result (c.drop_oldest-dropped.ensures.answer_value _ _ c.room_left.ensures) c.in-Refused-fits.is
+pub returns-in_err-restore_rest : goal.returns-in_err-restore_rest
+returns-in_err-restore_rest c =
+    let e = remake_unfilled _ _ c.requires c.leave_pinned.new.list c.in_ok-leave_pinned.ensures.value (c.in_ok-drop_oldest.ensures.value _)
+    (c.in_ok-drop_oldest.ensures.size ∙ c.in_ok-leave_pinned.ensures.size) (c.in_err-restore_rest.ensures _) in
+    grind (arith, common_steps)
 
-pub restore_rest-filled-requires : goal.restore_rest-filled-requires
-restore_rest-filled-requires c = (sound_sizes_lem c.drop_oldest-dropped.ensures.state_value.0).small
-
-pub returns-in-Refused-restored : goal.returns-in-Refused-restored
-returns-in-Refused-restored c = remake_unfilled _ _ c.leave_pinned-left.result c.leave_pinned-left.ensures.result_value c.in_default.is c.drop_oldest-dropped.result (c.drop_oldest-dropped.ensures.answer_value _ _ c.room_left.ensures) c.in_default-fits.is (c.drop_oldest-dropped.ensures.state_value.1 ∙ c.leave_pinned-left.ensures.state_value.1) c.restore_rest-filled.result (c.restore_rest-filled.ensures _) c.in-Refused-restored.is
-
-pub returns-in-Refused-moved : goal.returns-in-Refused-moved
-returns-in-Refused-moved c = remake_unmoved _ _ c.leave_pinned-left.result c.leave_pinned-left.ensures.result_value c.in_default.is c.drop_oldest-dropped.result (c.drop_oldest-dropped.ensures.answer_value _ _ c.room_left.ensures) c.in_default-fits.is (c.drop_oldest-dropped.ensures.state_value.1 ∙ c.leave_pinned-left.ensures.state_value.1) c.restore_rest-filled.result (c.restore_rest-filled.ensures _) c.in_default-restored.is c.move_rest-settled.result c.move_rest-settled.ensures c.in-Refused-moved.is
+pub returns-in_err-move_rest : goal.returns-in_err-move_rest
+returns-in_err-move_rest c =
+    let e = remake_unmoved _ _ c.requires c.leave_pinned.new.list c.in_ok-leave_pinned.ensures.value (c.in_ok-drop_oldest.ensures.value _)
+    (c.in_ok-drop_oldest.ensures.size ∙ c.in_ok-leave_pinned.ensures.size) (c.in_ok-restore_rest.ensures _) c.in_err-move_rest.ensures in
+    grind (arith, common_steps)
 
 pub returns : goal.returns
-returns c = remake_done _ _ c.leave_pinned-left.result c.leave_pinned-left.ensures.result_value c.in_default.is c.drop_oldest-dropped.result (c.drop_oldest-dropped.ensures.answer_value _ _ c.room_left.ensures) c.in_default-fits.is (c.drop_oldest-dropped.ensures.state_value.1 ∙ c.leave_pinned-left.ensures.state_value.1) c.restore_rest-filled.result (c.restore_rest-filled.ensures _) c.in_default-restored.is c.move_rest-settled.result c.move_rest-settled.ensures c.in_default-moved.is c.inherit.ensures
+returns c =
+    sym (remake_done _ _ c.requires c.leave_pinned.new.list c.in_ok-leave_pinned.ensures.value (c.in_ok-drop_oldest.ensures.value _)
+    (c.in_ok-drop_oldest.ensures.size ∙ c.in_ok-leave_pinned.ensures.size) (c.in_ok-restore_rest.ensures _) c.move_rest.new.list c.in_ok-move_rest.ensures c.inherit.ensures)

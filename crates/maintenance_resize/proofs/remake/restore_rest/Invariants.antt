@@ -9,6 +9,3 @@ use Rattle.maintenance_resize.proofs.remake.restore_rest.Given as goal
 
 abbrev pub invariant-loop-slot : goal.invariant-loop-slot
 invariant-loop-slot l = (list : List ℕ) → each_slot restore_rest (l.old.capacity - l.slot) l.slot (moving_of l.old l.new list) ≡ each_slot restore_rest l.old.capacity 0 (moving_of l.old l.initial.new list)
-
-abbrev pub decreases-loop-slot : goal.decreases-loop-slot
-decreases-loop-slot l = l.old.capacity - l.slot
