@@ -58,23 +58,22 @@ checked : {A : Type 0} (x : Try Fine) (r : Try A) (a : A) → (x >> r) ≡ ok a 
 checked (ok done) r a e = (refl, e)
 checked (refuse k) r a e = let z : ◌≡◌ {A = ℕ} 0 1 = cc in absurd (omega arith)
 
--- the sizes, by what the bucket count of the capacity, or what refused it, was found to be
-pub sizes_told : (c buckets vacant held : ℕ) (f : Refusal → Refusal → Bool) (r : Result ℕ Refusal) {right : Bool} → answer r ≡ count_for c → right ≡ result_eq nat_eq f r (Ok buckets)
-    → sound_sizes c buckets vacant held ≡ right && leb vacant c && leb held c
-unfolding sound_sizes count_for
-sizes_told c buckets vacant held f (Ok n) e t =
+-- the first three tests, by what the bucket count of the capacity, or what refused it, was found to be
+pub sizes_told : (c buckets : ℕ) (f : Refusal → Refusal → Bool) (r : Result ℕ Refusal) → answer r ≡ count_for c → ltb 0 c && leb c 256 && eqb buckets (bucket_count c) ≡ result_eq nat_eq f r (Ok buckets)
+unfolding count_for
+sizes_told c buckets f (Ok n) e =
     let p = checked (need_capacity c) (ok (bucket_count c)) n (sym e) in
     let fits = capacity_fits c p.0 in
     let m : bucket_count c ≡ n = cc in
-    rw (t, lt-ltb 0 c fits.0, le-leb c 256 fits.1, m) (elim (is (eqb n buckets)) [
+    rw (lt-ltb 0 c fits.0, le-leb c 256 fits.1, m) (elim (is (eqb n buckets)) [
       | yes! v ↦ let q : buckets ≡ n = sym (eqb-true n buckets v) in rw (v, eq-eqb buckets n q)
       | no! v ↦ let q : buckets ≡ n → ⊥ = λ z. eqb-false n buckets v (sym z) in rw (v, ne_eqb buckets n q)
     ])
-sizes_told c buckets vacant held f (Err why) e t =
+sizes_told c buckets f (Err why) e =
     elim (is (ltb 0 c)) [
-      | no! v ↦ rw (t, v)
+      | no! v ↦ rw v
       | yes! v ↦ elim (is (leb c 256)) [
-        | no! w ↦ rw (t, v, w)
+        | no! w ↦ rw (v, w)
         | yes! w ↦
             let g : ◌≡◌ {A = Try ℕ} (refuse (number why)) (ok (bucket_count c)) = rw (capacity_allowed c (ltb-true _ _ v) (leb-true _ _ w)) at e in
             let z : ◌≡◌ {A = ℕ} 0 1 = cc in
