@@ -1,6 +1,7 @@
 // SPDX-License-Identifier: Apache-2.0
 // Texts and numbers written into a list of bytes. Every function writes from a place of `out` on and answers the place behind what it wrote.
-// Where there is no room it writes less, and a place past the end is taken for the end, so an answer is always within `out`.
+// Where there is no room it writes less, and a place past the end is taken for the end, so an answer is always within `out`. `out` and the place stay two
+// parameters: a struct that held the `&mut` would owe at each call that it holds the same list still, and `flush` lends the list out besides.
 #![tactic(auto)]
 
 ghost use Rattle.std.specs.Prelude.{◌≡◌, [], ◌∷◌, ◌≤◌, min, length, leb, if◌then◌else◌, IfOk, IsOk};
@@ -36,13 +37,11 @@ pub fn put_text(out: &mut [u8], at: usize, text: &[u8]) -> usize
 }
 
 // A number in decimal.
-#[tactic(auto, using(crate::proofs::Laws::wrote_as, crate::proofs::Decimal::fewest_decimal))]
+#[tactic(auto, using(crate::proofs::Laws::wrote_as, sheet_lines::proofs::Bytes::decimal_same))]
 pub fn digits(out: &mut [u8], at: usize, n: u64) -> usize
     ensures { Wrote out.old at (decimal n) result out.new }
 {
-    let mut text: [u8; 20] = [0; 20];
-    let count = io::decimal(n, &mut text);
-    put_text(out, at, &text[..count])
+    put_text(out, at, itoa::Buffer::new().format(n).as_bytes())
 }
 
 // A space, and a number.
