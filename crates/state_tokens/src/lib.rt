@@ -5,26 +5,12 @@
 // state/mod.rs, the calls that end a load: publish and abort. Both work on any table; a refusal hands the table back as it came.
 #![tactic(auto)]
 
-ghost use Rattle.std.specs.Prelude.{◌≡◌, ◌<◌, ◌≤◌, true, false, MatchResult};
-ghost use Rattle.basics.specs.declared.Refusal.TheVariants.{StaleLoad};
+ghost use Rattle.std.specs.Prelude.{◌≡◌};
 ghost use Rattle.state.specs.Answers.{finished_after};
-ghost use Rattle.state.specs.Tokens.{outstanding, publish as publish_rule, abort as abort_rule};
+ghost use Rattle.state.specs.Tokens.{publish as publish_rule, abort as abort_rule};
 
 use basics::Refusal;
 use state::{LoadToken, Outcome, Slot, State};
-
-// The slot that loads for the token.
-#[tactic(auto, using(basics::proofs::Tests::tests), unfolding(state::specs::Tokens::outstanding))]
-fn loading_slot(t: &State, token: LoadToken) -> Result<usize, Refusal>
-    requires { t.now.capacity ≤ 256 }
-    ensures { MatchResult result (λ slot. (outstanding t.now token ≡ true) × ((slot ≡ token.slot) × (slot < t.now.capacity))) (λ why. (why ≡ StaleLoad) × (outstanding t.now token ≡ false)) }
-{
-    let slot = usize::from(token.slot);
-    if t.capacity <= slot || !state::loads_for(t.slots[slot], token) {
-        return Err(Refusal::StaleLoad);
-    }
-    Ok(slot)
-}
 
 // The slot becomes clean with the token's use number.
 #[tactic(auto, using(basics::proofs::Tests::tests), unfolding(state::specs::Tokens::publish))]
@@ -32,16 +18,14 @@ fn publish_in(t: &mut State, token: LoadToken) -> Result<(), Refusal>
     ensures { finished_after record { state = t.new; answer = result } ≡ publish_rule t.old token }
 {
     t.check_sound()?;
-    let slot = loading_slot(t, token)?;
+    let slot = t.outstanding_slot(token)?;
     if t.next_access_sequence < token.access_sequence {
         return Err(Refusal::Ungiven);
     }
     let heap = eviction_sift::insert(t.eviction, t.capacity, slot, token.access_sequence)?;
-    if t.loading == 0 || t.clean == basics::MAX_COUNT {
-        return Err(Refusal::Stop);
-    }
-    t.clean += 1;
-    t.loading -= 1;
+    let left = t.loading.checked_sub(1).ok_or(Refusal::Stop)?;
+    t.clean = t.clean.checked_add(1).ok_or(Refusal::Stop)?;
+    t.loading = left;
     t.eviction = heap;
     t.slots[slot] = Slot {
         kind: state::CLEAN,
@@ -58,7 +42,7 @@ fn abort_in(t: &mut State, token: LoadToken) -> Result<(), Refusal>
     ensures { finished_after record { state = t.new; answer = result } ≡ abort_rule t.old token }
 {
     t.check_sound()?;
-    let slot = loading_slot(t, token)?;
+    let slot = t.outstanding_slot(token)?;
     let index = index_chains::vacate(t.capacity, t.index, token.key, slot)?;
     let loading = t.loading.checked_sub(1).ok_or(Refusal::Stop)?;
     t.index = index;
