@@ -2,7 +2,8 @@
 // SPDX-License-Identifier: Apache-2.0
 // Ported from src/fs/cache/maintenance.rs of HypeR-Proj/kernel at 53afd06a1d, changed; see NOTICE.
 
-// maintenance.rs, reclaim (`reclaim_batch`). It works on any table; a refusal hands back the table as it came.
+// maintenance.rs, reclaim (`reclaim_batch`). It works on any table; a refusal hands back the table as it came. The `as u16` is proved to lose
+// nothing; `try_from` could fail.
 #![tactic(auto)]
 
 ghost use Rattle.std.specs.Prelude.{◌≡◌, ◌≤◌};

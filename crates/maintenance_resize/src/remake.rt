@@ -3,7 +3,8 @@
 // Ported from src/fs/cache/maintenance.rs of HypeR-Proj/kernel at 53afd06a1d, changed; see NOTICE.
 
 // maintenance.rs, the steps from the new table with the pinned keys on: what leaves the old table, what the new one takes, and the list. They work in
-// place, on copies that a refusal drops. The three loops over the old slots stay apart: a closure for what each does with a slot was no plainer.
+// place, on copies that a refusal drops. The three loops over the old slots stay apart: a closure for what each does with a slot is no plainer.
+// Each `as u16` is proved to lose nothing; `try_from` could fail.
 ghost use Rattle.std.specs.Prelude.{◌≡◌, List, ℕ, ◌≤◌, take};
 ghost use Rattle.basics.specs.Lists.{each_slot};
 ghost use Rattle.state_remove.specs.Answers.{tried};

@@ -66,7 +66,7 @@ fn check_clean(t: &State, slot: usize) -> Result<(), Refusal>
     Ok(())
 }
 
-// Removing counts an eviction.
+// `remove` as the table's call, which takes it by value.
 #[tactic(auto, unfolding(state::specs::Remove::remove))]
 pub fn remove_clean(mut t: State, slot: usize) -> Outcome<()>
     ensures { finished_after result ≡ remove_rule t slot }
@@ -78,7 +78,7 @@ pub fn remove_clean(mut t: State, slot: usize) -> Outcome<()>
     Outcome { state: t, answer }
 }
 
-// Detaching does not.
+// `detach` as the table's call.
 #[tactic(auto, unfolding(state::specs::Remove::detach))]
 pub fn detach_clean(mut t: State, slot: usize) -> Outcome<()>
     ensures { finished_after result ≡ detach_rule t slot }
