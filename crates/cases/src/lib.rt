@@ -8,12 +8,12 @@ ghost use Rattle.cases.specs.Places.{Within};
 ghost use Rattle.cases.specs.Bytes.{FAR as farthest, byte_at, low, numbers_at, key_at, call_at};
 ghost use Rattle.picture.specs.Table.{count_numbers};
 
-use basics::Done;
+use basics::Refusal;
 use eviction::{Entry, EvictionHeap};
 use index::Index;
 use key::CacheKey;
 use maintenance_resize::Maintenance;
-use state::{Access, CleanEntry, Counters, Found, LoadToken, Slot, State};
+use state::{Access, CleanEntry, Counters, LoadToken, Outcome, Slot, State};
 use streams::Failed;
 
 // A call without the table that it is made on and without its pin bytes, whose number is `pins`.
@@ -226,7 +226,7 @@ pub fn read_table(bytes: &[u8], at: usize) -> Table
         free,
         free_len,
     };
-    let heap = EvictionHeap {
+    let eviction = EvictionHeap {
         entries,
         len: heap_len,
         positions,
@@ -235,7 +235,7 @@ pub fn read_table(bytes: &[u8], at: usize) -> Table
         slots,
         capacity,
         index,
-        eviction: heap,
+        eviction,
         next_load_generation: low_8(bytes, over(at, 64)),
         next_access_sequence: low_8(bytes, over(at, 72)),
         counters,
@@ -291,28 +291,34 @@ fn put_word(out: &mut [u8], at: usize, word: &[u8], more: usize) -> usize
     picture_numbers::put(out, c, more as u64)
 }
 
+// `why` is the number of a refusal.
 pub fn put_refused(out: &mut [u8], at: usize, why: u8, more: usize) -> usize
     ensures { Within result out.old out.new }
 {
-    put_numbered(out, at, b"refused", why as usize, more)
+    put_numbered(out, at, b"refused", usize::from(why), more)
 }
 
-pub fn put_done(out: &mut [u8], at: usize, answer: Done) -> usize
+pub fn put_done(out: &mut [u8], at: usize, answer: Result<(), Refusal>) -> usize
     ensures { Within result out.old out.new }
 {
     match answer {
-        Done::Done => put_word(out, at, b"done", 0),
-        Done::Refused(why) => put_refused(out, at, why, 0),
+        Ok(()) => put_word(out, at, b"done", 0),
+        Err(why) => put_refused(out, at, u8::from(why), 0),
     }
 }
 
-fn put_found(out: &mut [u8], at: usize, answer: Found, word: &[u8]) -> usize
+fn put_found(
+    out: &mut [u8],
+    at: usize,
+    answer: Result<Option<usize>, Refusal>,
+    word: &[u8],
+) -> usize
     ensures { Within result out.old out.new }
 {
     match answer {
-        Found::At(slot) => put_numbered(out, at, word, slot, 0),
-        Found::Nothing => put_word(out, at, b"none", 0),
-        Found::Refused(why) => put_refused(out, at, why, 0),
+        Ok(Some(slot)) => put_numbered(out, at, word, slot, 0),
+        Ok(None) => put_word(out, at, b"none", 0),
+        Err(why) => put_refused(out, at, u8::from(why), 0),
     }
 }
 
@@ -324,17 +330,22 @@ fn put_key(out: &mut [u8], at: usize, key: CacheKey) -> usize
     picture_numbers::put(out, b, key.index)
 }
 
-fn put_entry(out: &mut [u8], at: usize, slot: usize, answer: CleanEntry) -> usize
+fn put_entry(
+    out: &mut [u8],
+    at: usize,
+    slot: usize,
+    answer: Result<Option<CleanEntry>, Refusal>,
+) -> usize
     ensures { Within result out.old out.new }
 {
     match answer {
-        CleanEntry::Entry(key, last_access) => {
+        Ok(Some(entry)) => {
             let a = put_numbered(out, at, b"found", slot, 4);
-            let b = put_key(out, a, key);
-            picture_numbers::put(out, b, last_access)
+            let b = put_key(out, a, entry.key);
+            picture_numbers::put(out, b, entry.last_access)
         }
-        CleanEntry::Nothing => put_word(out, at, b"none", 0),
-        CleanEntry::Refused(why) => put_refused(out, at, why, 0),
+        Ok(None) => put_word(out, at, b"none", 0),
+        Err(why) => put_refused(out, at, u8::from(why), 0),
     }
 }
 
@@ -342,40 +353,39 @@ fn put_entry(out: &mut [u8], at: usize, slot: usize, answer: CleanEntry) -> usiz
 fn put_token(out: &mut [u8], at: usize, word: &[u8], token: LoadToken) -> usize
     ensures { Within result out.old out.new }
 {
-    let key = token.key;
-    let slot = basics::wide(token.slot);
-    let a = put_numbered(out, at, word, slot, 6);
-    let b = picture_numbers::put(out, a, slot as u64);
+    let a = put_numbered(out, at, word, usize::from(token.slot), 6);
+    let b = picture_numbers::put(out, a, u64::from(token.slot));
     let c = picture_numbers::put(out, b, token.generation);
-    let d = put_key(out, c, key);
+    let d = put_key(out, c, token.key);
     picture_numbers::put(out, d, token.access_sequence)
 }
 
-pub fn put_access(out: &mut [u8], at: usize, answer: Access) -> usize
+pub fn put_access(out: &mut [u8], at: usize, answer: Result<Access, Refusal>) -> usize
     ensures { Within result out.old out.new }
 {
     match answer {
-        Access::Hit(slot) => put_numbered(out, at, b"hit", slot, 0),
-        Access::LoadInProgress => put_word(out, at, b"loading", 0),
-        Access::CapacityBusy => put_word(out, at, b"busy", 0),
-        Access::Refused(why) => put_refused(out, at, why, 0),
-        Access::Reserved(token, left) => {
-            if left {
-                return put_token(out, at, b"evicted", token);
-            }
-            put_token(out, at, b"reserved", token)
-        }
+        Ok(Access::Hit(slot)) => put_numbered(out, at, b"hit", slot, 0),
+        Ok(Access::LoadInProgress) => put_word(out, at, b"loading", 0),
+        Ok(Access::Reserved(token)) => put_token(out, at, b"reserved", token),
+        Ok(Access::Evicted(token)) => put_token(out, at, b"evicted", token),
+        Ok(Access::CapacityBusy) => put_word(out, at, b"busy", 0),
+        Err(why) => put_refused(out, at, u8::from(why), 0),
     }
 }
 
-fn put_maintenance(out: &mut [u8], at: usize, answer: Maintenance, places: usize) -> usize
+fn put_maintenance(
+    out: &mut [u8],
+    at: usize,
+    answer: Result<Maintenance, Refusal>,
+    places: usize,
+) -> usize
     ensures { Within result out.old out.new }
 {
     match answer {
-        Maintenance::Unchanged => put_word(out, at, b"unchanged", places),
-        Maintenance::Busy => put_word(out, at, b"busy", places),
-        Maintenance::Refused(why) => put_refused(out, at, why, places),
-        Maintenance::Resized(capacity) => put_numbered(out, at, b"resized", capacity, places),
+        Ok(Maintenance::Unchanged) => put_word(out, at, b"unchanged", places),
+        Ok(Maintenance::Busy) => put_word(out, at, b"busy", places),
+        Ok(Maintenance::Resized(capacity)) => put_numbered(out, at, b"resized", capacity, places),
+        Err(why) => put_refused(out, at, u8::from(why), places),
     }
 }
 
@@ -383,7 +393,7 @@ fn put_maintenance(out: &mut [u8], at: usize, answer: Maintenance, places: usize
 pub fn put_resized(
     out: &mut [u8],
     at: usize,
-    answer: Maintenance,
+    answer: Result<Maintenance, Refusal>,
     list: &[u16],
     places: usize,
 ) -> usize
@@ -393,12 +403,12 @@ pub fn put_resized(
     picture::put_words(out, a, list, places)
 }
 
-fn put_reclaimed(out: &mut [u8], at: usize, answer: Done, count: usize) -> usize
+fn put_reclaimed(out: &mut [u8], at: usize, answer: Result<(), Refusal>, count: usize) -> usize
     ensures { Within result out.old out.new }
 {
     match answer {
-        Done::Done => put_numbered(out, at, b"reclaimed", count, 64),
-        Done::Refused(why) => put_refused(out, at, why, 64),
+        Ok(()) => put_numbered(out, at, b"reclaimed", count, 64),
+        Err(why) => put_refused(out, at, u8::from(why), 64),
     }
 }
 
@@ -409,22 +419,19 @@ fn run_reclaim(out: &mut [u8], at: usize, t: State, limit: usize, pins: &[u8]) -
     ensures { Within result.at out.old out.new }
 {
     let batch = maintenance_reclaim::reclaim(t, limit, pins);
-    let answer = batch.answer;
-    let next = batch.state;
-    let slots = batch.slots;
-    let a = put_reclaimed(out, at, answer, batch.count);
-    let b = picture::put_words(out, a, &slots, 64);
-    Ran { state: next, at: b }
+    let a = put_reclaimed(out, at, batch.answer, batch.count);
+    Ran {
+        state: batch.state,
+        at: picture::put_words(out, a, &batch.slots, 64),
+    }
 }
 
 fn run_lookup(out: &mut [u8], at: usize, t: State, key: CacheKey) -> Ran
     ensures { Within result.at out.old out.new }
 {
-    let looked = state_lookup::lookup(t, key);
-    let next = looked.state;
-    let answer = looked.answer;
+    let Outcome { state, answer } = state_lookup::lookup(t, key);
     Ran {
-        state: next,
+        state,
         at: put_found(out, at, answer, b"hit"),
     }
 }
@@ -433,18 +440,14 @@ fn run_lookup(out: &mut [u8], at: usize, t: State, key: CacheKey) -> Ran
 fn run_finished(out: &mut [u8], at: usize, t: State, call: Call) -> Ran
     ensures { Within result.at out.old out.new }
 {
-    let token = call.token;
-    let code = call.code;
-    let finished = match code {
-        3 => state_tokens::publish(t, token),
-        4 => state_tokens::abort(t, token),
+    let Outcome { state, answer } = match call.code {
+        3 => state_tokens::publish(t, call.token),
+        4 => state_tokens::abort(t, call.token),
         6 => state_remove::remove_clean(t, call.number),
         _ => state_remove::detach_clean(t, call.number),
     };
-    let next = finished.state;
-    let answer = finished.answer;
     Ran {
-        state: next,
+        state,
         at: put_done(out, at, answer),
     }
 }
@@ -453,44 +456,33 @@ fn run_finished(out: &mut [u8], at: usize, t: State, call: Call) -> Ran
 fn run_read(out: &mut [u8], at: usize, t: State, call: Call) -> usize
     ensures { Within result out.old out.new }
 {
-    let token = call.token;
-    let key = token.key;
-    let code = call.code;
-    if code == 11 {
-        return put_done(out, at, t.validate(token));
+    match call.code {
+        11 => put_done(out, at, t.validate(call.token)),
+        12 => put_found(
+            out,
+            at,
+            state_search::peek_clean(t, call.token.key),
+            b"found",
+        ),
+        13 => put_entry(out, at, call.number, t.clean_entry(call.number)),
+        14 => put_found(out, at, t.oldest_clean(), b"found"),
+        _ => put_found(out, at, t.cold_candidate(call.number), b"found"),
     }
-    if code == 12 {
-        return put_found(out, at, state_search::peek_clean(t, key), b"found");
-    }
-    if code == 13 {
-        return put_entry(out, at, call.number, t.clean_entry(call.number));
-    }
-    if code == 14 {
-        return put_found(out, at, t.oldest_clean(), b"found");
-    }
-    put_found(out, at, t.cold_candidate(call.number), b"found")
 }
 
 // The calls that no gate stands before: all but access and resize. An unknown code is taken for detach's.
 pub fn run(out: &mut [u8], at: usize, t: State, call: Call, pins: &[u8]) -> Ran
     ensures { Within result.at out.old out.new }
 {
-    let code = call.code;
-    if code == 5 {
-        let token = call.token;
-        let key = token.key;
-        return run_lookup(out, at, t, key);
-    }
-    if code == 9 {
-        return run_reclaim(out, at, t, call.number, pins);
-    }
-    if 10 < code {
-        return Ran {
+    match call.code {
+        5 => run_lookup(out, at, t, call.token.key),
+        9 => run_reclaim(out, at, t, call.number, pins),
+        11..=u8::MAX => Ran {
             state: t,
             at: run_read(out, at, t, call),
-        };
+        },
+        _ => run_finished(out, at, t, call),
     }
-    run_finished(out, at, t, call)
 }
 
 // The table after the call, what stands past its lengths, and the line's end.
