@@ -7,41 +7,37 @@
 ghost use Rattle.std.specs.Prelude.{◌≡◌, ◌≤◌, length, IfSome};
 ghost use Rattle.cases.specs.Places.{Within};
 
-use basics::Done;
 use cases::Call;
 use gate::Gate;
 use picture_numbers::flush;
-use state::State;
+use state::{Outcome, State};
 use streams::Failed;
 
-// The table and the gate that a call is made on, and the place behind their bytes.
+// A table and its gate.
 #[derive(Clone, Copy)]
-struct Begun {
+struct Guarded {
     state: State,
     gate: Gate,
+}
+
+// What a call is made on, and the place behind its bytes.
+#[derive(Clone, Copy)]
+struct Begun {
+    guarded: Guarded,
     end: usize,
 }
 
-// Table and gate after a call, and the place behind the answer's text.
+// What stands after a call, and the place behind the answer's text.
 #[derive(Clone, Copy)]
 struct Went {
-    state: State,
-    gate: Gate,
+    guarded: Guarded,
     at: usize,
 }
 
-// A gate after a turn, and the place behind the answer's text.
-#[derive(Clone, Copy)]
-struct Turn {
-    gate: Gate,
-    at: usize,
-}
-
-// Table and gate after a case, what was taken of some bytes, and the place behind what was written.
+// What stands after a case, what was taken of some bytes, and the place behind what was written.
 #[derive(Clone, Copy)]
 struct Taken {
-    state: State,
-    gate: Gate,
+    guarded: Guarded,
     used: usize,
     written: usize,
 }
@@ -59,19 +55,20 @@ fn read_gate(bytes: &[u8], at: usize) -> Gate {
 }
 
 // The call begins at place 1. Behind it stand a gate and a table where the first byte is not 0.
-fn begin(bytes: &[u8], t: State, gate: Gate) -> Begun {
+fn begin(bytes: &[u8], guarded: Guarded) -> Begun {
     let behind = cases::over(1, cases::CALL);
     if cases::byte_at(bytes, 0) == 0 {
         return Begun {
-            state: t,
-            gate,
+            guarded,
             end: behind,
         };
     }
     let table = cases::read_table(bytes, cases::over(behind, GATE));
     Begun {
-        state: table.state,
-        gate: read_gate(bytes, behind),
+        guarded: Guarded {
+            state: table.state,
+            gate: read_gate(bytes, behind),
+        },
         end: table.end,
     }
 }
@@ -89,55 +86,55 @@ fn put_gate(out: &mut [u8], at: usize, gate: Gate) -> usize
 }
 
 // new: a refused one leaves table and gate as they were.
-fn run_new(out: &mut [u8], at: usize, t: State, gate: Gate, capacity: usize) -> Went
+fn run_new(out: &mut [u8], at: usize, guarded: Guarded, capacity: usize) -> Went
     ensures { Within result.at out.old out.new }
 {
     let made = State::try_new(capacity);
-    let answer = made.answer;
-    if let Done::Refused(why) = answer {
-        return Went {
-            state: t,
-            gate: gate,
-            at: cases::put_refused(out, at, why, 0),
-        };
-    }
-    let fresh = made.state;
-    Went {
-        state: fresh,
-        gate: Gate::new(),
-        at: cases::put_numbered(out, at, b"made", capacity, 0),
+    match made.answer {
+        Ok(()) => Went {
+            guarded: Guarded {
+                state: made.state,
+                gate: Gate::new(),
+            },
+            at: cases::put_numbered(out, at, b"made", capacity, 0),
+        },
+        Err(why) => Went {
+            guarded,
+            at: cases::put_refused(out, at, u8::from(why), 0),
+        },
     }
 }
 
-// A pause or a dirty page begins or ends.
-fn run_turn(out: &mut [u8], at: usize, gate: Gate, code: u8) -> Turn
+// A pause or a dirty page begins or ends; a refusal leaves the gate as it was.
+fn run_turn(out: &mut [u8], at: usize, guarded: Guarded, code: u8) -> Went
     ensures { Within result.at out.old out.new }
 {
+    let Guarded { state, gate } = guarded;
     let turned = match code {
         16 => gate.begin_pause(),
         17 => gate.end_pause(),
         18 => gate.begin_dirty(),
         _ => gate.end_dirty(),
     };
-    let next = turned.gate;
-    let answer = turned.answer;
-    Turn {
-        gate: next,
-        at: cases::put_done(out, at, answer),
+    match turned {
+        Ok(gate) => Went {
+            guarded: Guarded { state, gate },
+            at: cases::put_done(out, at, Ok(())),
+        },
+        Err(why) => Went {
+            guarded,
+            at: cases::put_done(out, at, Err(why)),
+        },
     }
 }
 
-fn run_access(out: &mut [u8], at: usize, t: State, gate: Gate, call: Call, pins: &[u8]) -> Went
+fn run_access(out: &mut [u8], at: usize, guarded: Guarded, call: Call, pins: &[u8]) -> Went
     ensures { Within result.at out.old out.new }
 {
-    let token = call.token;
-    let key = token.key;
-    let accessed = passage::access(t, gate, key, call.allow, pins);
-    let next = accessed.state;
-    let answer = accessed.answer;
+    let Guarded { state, gate } = guarded;
+    let Outcome { state, answer } = passage::access(state, gate, call.token.key, call.allow, pins);
     Went {
-        state: next,
-        gate: gate,
+        guarded: Guarded { state, gate },
         at: cases::put_access(out, at, answer),
     }
 }
@@ -145,8 +142,7 @@ fn run_access(out: &mut [u8], at: usize, t: State, gate: Gate, call: Call, pins:
 fn run_resize(
     out: &mut [u8],
     at: usize,
-    t: State,
-    gate: Gate,
+    guarded: Guarded,
     call: Call,
     pins: &[u8],
     list: &mut [u16],
@@ -154,45 +150,43 @@ fn run_resize(
     ensures { Within result.at out.old out.new }
 {
     let places = call.list.min(list.len());
-    let passed = passage::resize(t, gate, call.number, pins, &mut list[..places]);
-    let answer = passed.answer;
-    let next = passed.state;
-    let after = passed.gate;
+    let passed = passage::resize(
+        guarded.state,
+        guarded.gate,
+        call.number,
+        pins,
+        &mut list[..places],
+    );
     Went {
-        state: next,
-        gate: after,
-        at: cases::put_resized(out, at, answer, &list[..], places),
+        guarded: Guarded {
+            state: passed.state,
+            gate: passed.gate,
+        },
+        at: cases::put_resized(out, at, passed.answer, &list[..], places),
     }
 }
 
-fn run(out: &mut [u8], at: usize, t: State, gate: Gate, call: Call, pins: &[u8]) -> Went
+fn run(out: &mut [u8], at: usize, guarded: Guarded, call: Call, pins: &[u8]) -> Went
     ensures { Within result.at out.old out.new }
 {
-    if call.code == 1 {
-        return run_new(out, at, t, gate, call.number);
-    }
-    if call.code == 2 {
-        return run_access(out, at, t, gate, call, pins);
-    }
-    if call.code == 8 {
-        let mut list: [u16; 65535] = [7; 65535];
-        return run_resize(out, at, t, gate, call, pins, &mut list);
-    }
-    if 15 < call.code {
-        let turn = run_turn(out, at, gate, call.code);
-        let turned = turn.gate;
-        return Went {
-            state: t,
-            gate: turned,
-            at: turn.at,
-        };
-    }
-    let ran = cases::run(out, at, t, call, pins);
-    let next = ran.state;
-    Went {
-        state: next,
-        gate: gate,
-        at: ran.at,
+    match call.code {
+        1 => run_new(out, at, guarded, call.number),
+        2 => run_access(out, at, guarded, call, pins),
+        8 => {
+            let mut list: [u16; 65535] = [7; 65535];
+            run_resize(out, at, guarded, call, pins, &mut list)
+        }
+        16..=u8::MAX => run_turn(out, at, guarded, call.code),
+        _ => {
+            let ran = cases::run(out, at, guarded.state, call, pins);
+            Went {
+                guarded: Guarded {
+                    state: ran.state,
+                    gate: guarded.gate,
+                },
+                at: ran.at,
+            }
+        }
     }
 }
 
@@ -201,20 +195,18 @@ fn put_case(
     out: &mut [u8],
     at: usize,
     number: u64,
-    t: State,
-    gate: Gate,
+    guarded: Guarded,
     call: Call,
     pins: &[u8],
 ) -> Went
     ensures { Within result.at out.old out.new }
 {
     let a = picture_numbers::digits(out, at, number);
-    let went = run(out, a, t, gate, call, pins);
-    let b = put_gate(out, went.at, went.gate);
+    let went = run(out, a, guarded, call, pins);
+    let b = put_gate(out, went.at, went.guarded.gate);
     Went {
-        state: went.state,
-        gate: went.gate,
-        at: cases::put_state(out, b, &went.state),
+        guarded: went.guarded,
+        at: cases::put_state(out, b, &went.guarded.state),
     }
 }
 
@@ -229,8 +221,7 @@ fn take_case(
     out: &mut [u8],
     at: usize,
     number: u64,
-    t: State,
-    gate: Gate,
+    guarded: Guarded,
     bytes: &[u8],
 ) -> Option<Taken>
     ensures used_in_bounds { IfSome result (λ taken. taken.used ≤ length bytes.now) }
@@ -238,17 +229,16 @@ fn take_case(
     ensures out_len_unchanged { length out.new ≡ length out.old }
 {
     let call = cases::read_call(bytes, 1);
-    let begun = begin(bytes, t, gate);
+    let begun = begin(bytes, guarded);
     let from = begun.end;
     let end = cases::over(from, call.pins);
     if bytes.len() < end || end < from || 1 < cases::byte_at(bytes, 0) || !known(call.code) {
         return None;
     }
     let pins = &bytes[from..end];
-    let went = put_case(out, at, number, begun.state, begun.gate, call, pins);
+    let went = put_case(out, at, number, begun.guarded, call, pins);
     Some(Taken {
-        state: went.state,
-        gate: went.gate,
+        guarded: went.guarded,
         used: end,
         written: went.at,
     })
@@ -262,8 +252,10 @@ fn run_all<R: Input + Print + Eprint>(
     out: &mut [u8],
 ) -> Result<(), Failed> {
     let refused = State::try_new(0);
-    let mut t = refused.state;
-    let mut gate = Gate::new();
+    let mut guarded = Guarded {
+        state: refused.state,
+        gate: Gate::new(),
+    };
     let mut written = 0;
     let mut number = 0;
     let mut from = 0;
@@ -273,12 +265,11 @@ fn run_all<R: Input + Print + Eprint>(
             break;
         };
         let case = &bytes[waiting.at..waiting.have];
-        let Some(taken) = take_case(out, written, number, t, gate, case) else {
+        let Some(taken) = take_case(out, written, number, guarded, case) else {
             break;
         };
         written = flush(rt, out, taken.written, cases::FULL)?;
-        t = taken.state;
-        gate = taken.gate;
+        guarded = taken.guarded;
         from = waiting.at + taken.used;
         end = waiting.have;
         number = basics::one_more(number);

@@ -10,7 +10,7 @@ ghost use Rattle.cases.specs.Places.{Within};
 use cases::{Call, Ran};
 use key::CacheKey;
 use picture_numbers::flush;
-use state::State;
+use state::{Outcome, State};
 use streams::Failed;
 
 // What was taken of some bytes, and the place behind what was written.
@@ -32,11 +32,9 @@ fn run_resize(
     ensures { Within result.at out.old out.new }
 {
     let places = count.min(list.len());
-    let maintained = maintenance_resize::resize(t, asked, pins, &mut list[..places]);
-    let answer = maintained.answer;
-    let next = maintained.state;
+    let Outcome { state, answer } = maintenance_resize::resize(t, asked, pins, &mut list[..places]);
     Ran {
-        state: next,
+        state,
         at: cases::put_resized(out, at, answer, &list[..], places),
     }
 }
@@ -44,11 +42,9 @@ fn run_resize(
 fn run_access(out: &mut [u8], at: usize, t: State, key: CacheKey, allow: bool, pins: &[u8]) -> Ran
     ensures { Within result.at out.old out.new }
 {
-    let accessed = state_access::access(t, key, allow, pins);
-    let next = accessed.state;
-    let answer = accessed.answer;
+    let Outcome { state, answer } = state_access::access(t, key, allow, pins);
     Ran {
-        state: next,
+        state,
         at: cases::put_access(out, at, answer),
     }
 }
@@ -56,16 +52,14 @@ fn run_access(out: &mut [u8], at: usize, t: State, key: CacheKey, allow: bool, p
 fn run(out: &mut [u8], at: usize, t: State, call: Call, pins: &[u8]) -> Ran
     ensures { Within result.at out.old out.new }
 {
-    if call.code == 2 {
-        let token = call.token;
-        let key = token.key;
-        return run_access(out, at, t, key, call.allow, pins);
+    match call.code {
+        2 => run_access(out, at, t, call.token.key, call.allow, pins),
+        8 => {
+            let mut list: [u16; 65535] = [7; 65535];
+            run_resize(out, at, t, call.number, pins, &mut list, call.list)
+        }
+        _ => cases::run(out, at, t, call, pins),
     }
-    if call.code == 8 {
-        let mut list: [u16; 65535] = [7; 65535];
-        return run_resize(out, at, t, call.number, pins, &mut list, call.list);
-    }
-    cases::run(out, at, t, call, pins)
 }
 
 // The line of a case.
