@@ -1,48 +1,55 @@
 -- SPDX-License-Identifier: Apache-2.0
--- The walks along a chain, one step on and at their ends. Assumes nothing.
+-- The walk along a chain, one step on and at its end; and that find and peek_clean are such walks. Assumes nothing.
 use Rattle.std.proofs.Common.{if◌then◌else◌}
 use Prim.Native.Nat.{ℕ, zero, suc, ◌+◌, ◌-◌, ◌≤◌, ◌<◌}
 use mathlib.Core.Path.{◌≡◌, refl}
-use mathlib.Core.Bool.{not}
 use mathlib.Core.Option.{none, some}
 use native.Mathlib.Omega.{arith}
 use lib.Dec.{leb, eqb}
-use Rattle.basics.specs.Try.{ok, refuse}
+use Rattle.basics.specs.Try.{Try, ok, refuse, ◌>>=◌}
+use mathlib.Core.Bool.{Bool}
+use Rattle.state.specs.declared.Slot.{Slot}
+use Rattle.state_search.specs.Sought.{walk_from, walk_key, find_test, peek_test}
 use Rattle.basics.specs.Refusals.{STOP}
 use Rattle.basics.specs.Numbers.{NONE}
+use Rattle.basics.proofs.Tests.{yes!, no!, is}
 use Rattle.key.specs.declared.CacheKey.{CacheKey}
-use Rattle.key.specs.Key.{same_key}
-use Rattle.index.specs.Chain.{next_of}
+use Rattle.index.specs.Chain.{CHAIN, head_of, next_of}
 use Rattle.state.specs.declared.State.{State}
-use Rattle.state.specs.Slots.{slot_at, occupied, clean_with}
-use Rattle.state.specs.Find.{find_from}
-use Rattle.state.specs.Reads.{peek_from}
+use Rattle.state.specs.Slots.{slot_at, occupied}
+use Rattle.state.specs.Find.{find_from, find_key}
+use Rattle.state.specs.Reads.{peek_from, peek_clean}
 
-pub find_step : (steps : ℕ) (t : State) (key : CacheKey) (s i : ℕ) → i < steps
-    → find_from (steps - i) t key s
+pub walk_step : (rule : Slot → Try Bool) (steps : ℕ) (t : State) (s i : ℕ) → i < steps
+    → walk_from rule (steps - i) t s
     ≡ (if eqb s NONE then ok none else
     if leb t.capacity s then refuse STOP else
-    if not (occupied (slot_at t s)) then refuse STOP else
-    if same_key (slot_at t s).key key then ok (some s) else
-    find_from (steps - (i + 1)) t key (next_of t.index s))
-unfolding find_from
-find_step steps t key s i l = let e : steps - i ≡ suc (steps - (i + 1)) = omega arith in rw e
+    (rule (slot_at t s) >>= λ here. if here then ok (some s) else walk_from rule (steps - (i + 1)) t (next_of t.index s)))
+unfolding walk_from
+walk_step rule steps t s i l = let e : steps - i ≡ suc (steps - (i + 1)) = omega arith in rw e
 
-pub find_end : (n : ℕ) (t : State) (key : CacheKey) (s : ℕ) → n ≤ 0 → find_from n t key s ≡ (if eqb s NONE then ok none else refuse STOP)
-unfolding find_from
-find_end zero t key s l = refl
-find_end (suc n) t key s l = absurd (omega arith)
+pub walk_end : (rule : Slot → Try Bool) (n : ℕ) (t : State) (s : ℕ) → n ≤ 0 → walk_from rule n t s ≡ (if eqb s NONE then ok none else refuse STOP)
+unfolding walk_from
+walk_end rule zero t s l = refl
+walk_end rule (suc n) t s l = absurd (omega arith)
 
-pub peek_step : (steps : ℕ) (t : State) (key : CacheKey) (s i : ℕ) → i < steps
-    → peek_from (steps - i) t key s
-    ≡ (if eqb s NONE then ok none else
-    if leb t.capacity s then refuse STOP else
-    if clean_with (slot_at t s) key then ok (some s) else
-    peek_from (steps - (i + 1)) t key (next_of t.index s))
-unfolding peek_from
-peek_step steps t key s i l = let e : steps - i ≡ suc (steps - (i + 1)) = omega arith in rw e
+find_from_walk : (n : ℕ) (t : State) (key : CacheKey) (s : ℕ) → walk_from (find_test key) n t s ≡ find_from n t key s
+unfolding walk_from find_from find_test
+find_from_walk zero t key s = refl
+find_from_walk (suc n) t key s = elim (is (occupied (slot_at t s))) [
+  | no! v ↦ rw v
+  | yes! v ↦ rw (v, find_from_walk n t key (next_of t.index s))
+]
 
-pub peek_end : (n : ℕ) (t : State) (key : CacheKey) (s : ℕ) → n ≤ 0 → peek_from n t key s ≡ (if eqb s NONE then ok none else refuse STOP)
-unfolding peek_from
-peek_end zero t key s l = refl
-peek_end (suc n) t key s l = absurd (omega arith)
+peek_from_walk : (n : ℕ) (t : State) (key : CacheKey) (s : ℕ) → walk_from (peek_test key) n t s ≡ peek_from n t key s
+unfolding walk_from peek_from peek_test
+peek_from_walk zero t key s = refl
+peek_from_walk (suc n) t key s = rw (peek_from_walk n t key (next_of t.index s))
+
+pub find_walk : (t : State) (key : CacheKey) → walk_key (find_test key) t key ≡ find_key t key
+unfolding walk_key find_key
+find_walk t key = rw (find_from_walk CHAIN t key (head_of t.index key))
+
+pub peek_walk : (t : State) (key : CacheKey) → walk_key (peek_test key) t key ≡ peek_clean t key
+unfolding walk_key peek_clean
+peek_walk t key = rw (peek_from_walk CHAIN t key (head_of t.index key))

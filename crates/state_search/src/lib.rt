@@ -6,13 +6,14 @@
 // any table; a refusal leaves it as it was.
 #![tactic(auto)]
 
-ghost use Rattle.std.specs.Prelude.{◌≡◌, ◌<◌, IfOk, IfSome, MatchResult};
-ghost use Rattle.basics.specs.Try.{ok, refuse};
+ghost use Rattle.std.specs.Prelude.{◌≡◌, ◌<◌, Bool, IfOk, IfSome, MatchResult};
+ghost use Rattle.basics.specs.Try.{Try, ok, refuse};
 ghost use Rattle.basics.specs.Answers.{number, answer, found_answer};
 ghost use Rattle.state.specs.Slots.{occupied, clean_with};
 ghost use Rattle.state.specs.Find.{find_key, touch_next, seek};
 ghost use Rattle.state.specs.Reads.{peek_clean};
-ghost use Rattle.state_search.specs.Sought.{seen_of};
+ghost use Rattle.state_search.specs.Sought.{seen_of, Follows, walk_key, find_test, peek_test};
+ghost use Rattle.state.specs.declared.Slot.{Slot as SlotRecord};
 
 use basics::{NO_SLOT, Refusal};
 use eviction::EvictionHeap;
@@ -58,10 +59,15 @@ fn touch_next(
     eviction_sift::touch(heap, capacity, slot, next)
 }
 
-// The slot of the key's chain that holds the key; a vacant one on the way is a stop.
-#[tactic(auto, using(basics::proofs::Tests::tests, crate::proofs::Cases::find_step, crate::proofs::Cases::find_end), unfolding(state::specs::Find::find_key))]
-fn find(t: &State, key: CacheKey) -> Result<Option<usize>, Refusal>
-    ensures slot { found_answer result ≡ find_key t.now key }
+// The walk of a key's chain, to the first slot at which the test `here` is true; a test may be a stop. It is of any rule that says what the test does.
+#[tactic(auto, using(basics::proofs::Tests::tests, crate::proofs::Cases::walk_step, crate::proofs::Cases::walk_end), unfolding(crate::specs::Sought::walk_key))]
+fn walk<F: Fn(Slot) -> Result<bool, Refusal>>(
+    t: &State,
+    key: CacheKey,
+    here: F,
+) -> Result<Option<usize>, Refusal>
+    requires { F.IsAlwaysCallable here }
+    ensures slot { (rule : SlotRecord → Try Bool) → Follows (F.post here) rule → found_answer result ≡ walk_key rule t.now key }
     ensures inside { IfOk result (λ found. IfSome found (λ slot. slot < 256)) }
 {
     t.check_sound()?;
@@ -70,10 +76,10 @@ fn find(t: &State, key: CacheKey) -> Result<Option<usize>, Refusal>
         if slot == NO_SLOT {
             return Ok(None);
         }
-        if t.capacity <= slot || !holds_key(t.slots[slot]) {
+        if t.capacity <= slot {
             return Err(Refusal::Stop);
         }
-        if t.slots[slot].key.same(key) {
+        if here(t.slots[slot])? {
             return Ok(Some(slot));
         }
         slot = t.index.next_in_chain(slot);
@@ -85,7 +91,28 @@ fn find(t: &State, key: CacheKey) -> Result<Option<usize>, Refusal>
     }
 }
 
-// What lookup and access do first: a clean key's slot is touched and a hit counted, a loading key is counted.
+// The slot of the key's chain that holds the key; a vacant one on the way is a stop.
+#[tactic(auto, using(basics::proofs::Tests::tests), unfolding(crate::specs::Sought::find_test))]
+fn find(t: &State, key: CacheKey) -> Result<Option<usize>, Refusal>
+    ensures slot { found_answer result ≡ find_key t.now key }
+    ensures inside { IfOk result (λ found. IfSome found (λ slot. slot < 256)) }
+{
+    walk(
+        t,
+        key,
+        |slot: Slot| -> Result<bool, Refusal>
+            ensures { answer result ≡ find_test key slot }
+        {
+            if !holds_key(slot) {
+                return Err(Refusal::Stop);
+            }
+            Ok(slot.key.same(key))
+        },
+    )
+}
+
+// What lookup and access do first: a clean key's slot is touched and a hit counted, a loading key is counted. The first test of 10 is in its walk, as
+// in the rule `find_key`; lookup makes no other.
 #[tactic(auto, using(basics::proofs::Tests::tests), unfolding(state::specs::Find::seek, state::specs::Find::seek_at, state::specs::Find::hit_at, state::specs::Find::touch_next))]
 pub fn seek(t: &mut State, key: CacheKey) -> Result<Seen, Refusal>
     ensures seen { MatchResult result (λ seen. seek t.old key ≡ ok (record { table = t.new; seen = seen_of seen }))
@@ -112,31 +139,18 @@ pub fn seek(t: &mut State, key: CacheKey) -> Result<Seen, Refusal>
     Ok(Seen::Hit(slot))
 }
 
-// The slot of the key's chain that is clean with the key; a loading or vacant one is passed. So its walk has a rule of its own, and is not `find`'s with
-// another test.
-#[tactic(auto, using(basics::proofs::Tests::tests, crate::proofs::Cases::peek_step, crate::proofs::Cases::peek_end), unfolding(state::specs::Reads::peek_clean))]
+// The slot of the key's chain that is clean with the key; a loading or vacant one is passed.
+#[tactic(auto, using(basics::proofs::Tests::tests), unfolding(crate::specs::Sought::peek_test))]
 pub fn peek(t: &State, key: CacheKey) -> Result<Option<usize>, Refusal>
     ensures { found_answer result ≡ peek_clean t.now key }
 {
-    t.check_sound()?;
-    let mut at = t.index.head(key);
-    for _ in 0..MAX_CHAIN {
-        if at == NO_SLOT {
-            return Ok(None);
-        }
-        if t.capacity <= at {
-            return Err(Refusal::Stop);
-        }
-        if clean_with(t.slots[at], key) {
-            return Ok(Some(at));
-        }
-        at = t.index.next_in_chain(at);
-    }
-    if at == NO_SLOT {
-        Ok(None)
-    } else {
-        Err(Refusal::Stop)
-    }
+    walk(
+        t,
+        key,
+        |slot: Slot| -> Result<bool, Refusal>
+            ensures { answer result ≡ peek_test key slot }
+        { Ok(clean_with(slot, key)) },
+    )
 }
 
 // `peek` as the table's call, which takes it by value.
