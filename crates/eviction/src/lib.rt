@@ -21,12 +21,12 @@ pub struct Entry {
     pub slot: u16,
 }
 
-// No arrayvec: the rules read the places past the length too ("other places past a length are 0").
+// No arrayvec: the rules read the places past the length too ("other places past a length are 0"). The capacity is an argument: it stands once, in the table.
 #[derive(Clone, Copy)]
 pub struct EvictionHeap {
-    pub entries: [Entry; 256],
+    pub entries: [Entry; MAX_CAPACITY],
     pub len: usize,
-    pub positions: [u16; 256],
+    pub positions: [u16; MAX_CAPACITY],
 }
 
 impl Entry {
@@ -45,9 +45,9 @@ impl EvictionHeap {
         ensures { result ≡ no_heap }
     {
         EvictionHeap {
-            entries: [Entry::default(); 256],
+            entries: [Entry::default(); MAX_CAPACITY],
             len: 0,
-            positions: [0; 256],
+            positions: [0; MAX_CAPACITY],
         }
     }
 

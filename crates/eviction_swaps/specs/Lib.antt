@@ -1,3 +1,3 @@
 -- SPDX-License-Identifier: Apache-2.0
 pub mod Answers
-pub mod Way
+pub mod Step

@@ -9,8 +9,9 @@
 ghost use Rattle.std.specs.Prelude.{◌≡◌, ◌+◌, ◌*◌, ◌≤◌, ◌<◌};
 ghost use Rattle.basics.specs.Answers.{answer};
 ghost use Rattle.eviction_swaps.specs.Answers.{answer_in};
-ghost use Rattle.eviction_swaps.specs.Way.{next_of, InReach};
-ghost use Rattle.eviction.specs.Sift.{swapped, sift_from, up_to as up_rule, child_of as child_rule, down_to as down_rule, sift_up as sift_up_rule, sift_down as sift_down_rule};
+ghost use Rattle.eviction_swaps.specs.Step.{Callable, Within, Follows};
+ghost use Rattle.eviction.specs.Sift.{swapped, sift_from, sift_up as sift_up_rule, sift_down as sift_down_rule};
+ghost use Rattle.eviction.specs.Sift.{up_to as up_rule, child_of as child_rule, down_to as down_rule};
 
 use basics::{MAX_CAPACITY, Refusal};
 use eviction::EvictionHeap;
@@ -83,36 +84,22 @@ fn swap(heap: &mut EvictionHeap, capacity: usize, i: usize, j: usize) -> Result<
     Ok(())
 }
 
-// Which way an entry goes.
-#[derive(Clone, Copy)]
-enum Way {
-    Up,
-    Down,
-}
-
-impl Way {
-    // Where the entry at p goes next; p, where it stays.
-    fn next(self, heap: &EvictionHeap, p: usize) -> usize
-        requires { (p < 256) × InReach self heap.now.len }
-        ensures value { result ≡ next_of self heap.now p }
-        ensures upper_bound { result < 256 }
-    {
-        match self {
-            Way::Up => up_to(heap, p),
-            Way::Down => down_to(heap, p),
-        }
-    }
-}
-
-// The entry at `start` goes on, place by place, until it stays; no way has 256 steps.
+// The entry at `start` goes on, place by place, until it stays; no way has 256 steps. The step is `up_to` or `down_to`.
 #[tactic(auto, using(basics::proofs::Tests::tests, crate::proofs::Cases::sift_step, crate::proofs::Cases::sift_end))]
-fn sift(heap: &mut EvictionHeap, capacity: usize, start: usize, way: Way) -> Result<(), Refusal>
-    requires { (capacity ≤ 256) × ((start < 256) × InReach way heap.old.len) }
-    ensures { answer_in result heap.new ≡ sift_from (next_of way) 256 capacity heap.old start }
+fn sift<F: Fn(&EvictionHeap, usize) -> usize>(
+    heap: &mut EvictionHeap,
+    capacity: usize,
+    start: usize,
+    step: F,
+) -> Result<(), Refusal>
+    requires room { (capacity ≤ 256) × (start < 256) }
+    requires callable { Callable heap.old.len (F.pre step) }
+    requires within { Within heap.old.len (F.post step) }
+    ensures { (rule : _) → Follows heap.old.len rule (F.post step) → answer_in result heap.new ≡ sift_from rule 256 capacity heap.old start }
 {
     let mut p = start;
     for _ in 0..MAX_CAPACITY {
-        let next = way.next(heap, p);
+        let next = step(heap, p);
         if next == p {
             return Ok(());
         }
@@ -130,7 +117,7 @@ pub fn sift_up(
     requires { (capacity ≤ 256) × (start < 256) }
     ensures { answer result ≡ sift_up_rule capacity heap start }
 {
-    sift(&mut heap, capacity, start, Way::Up)?;
+    sift(&mut heap, capacity, start, up_to)?;
     Ok(heap)
 }
 
@@ -142,6 +129,6 @@ pub fn sift_down(
     requires { (capacity ≤ 256) × ((start < 256) × (heap.len ≤ 256)) }
     ensures { answer result ≡ sift_down_rule capacity heap start }
 {
-    sift(&mut heap, capacity, start, Way::Down)?;
+    sift(&mut heap, capacity, start, down_to)?;
     Ok(heap)
 }

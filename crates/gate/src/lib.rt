@@ -48,6 +48,7 @@ impl Gate {
         }
     }
 
+    // Four turns: they are the Rust's and document 02's calls, and each has a field of its own.
     // The Rust's `pause_admission`.
     #[tactic(auto, unfolding(crate::specs::Gate::begin_pause))]
     pub fn begin_pause(self) -> Result<Gate, Refusal>

@@ -15,16 +15,20 @@ ghost use Rattle.index.specs.Sizes.{Sized};
 ghost use Rattle.index.specs.Free.{top_vacant, take_vacant, release_index};
 ghost use Rattle.index.specs.Fresh.{no_index, new_index};
 
-use basics::{NONE, Refusal};
+use basics::{MAX_CAPACITY, NONE, Refusal};
 use key::CacheKey;
 
-// No arrayvec for the stack: the rules read the places past its length too ("other places past a length are 0").
+// The most buckets of a table: twice the most slots.
+pub const MAX_BUCKETS: usize = 512;
+
+// No arrayvec for the stack: the rules read the places past its length too ("other places past a length are 0"). The capacity is an argument: it stands once,
+// in the table.
 #[derive(Clone, Copy)]
 pub struct Index {
-    pub heads: [u16; 512],
+    pub heads: [u16; MAX_BUCKETS],
     pub buckets: usize,
-    pub next: [u16; 256],
-    pub free: [u16; 256],
+    pub next: [u16; MAX_CAPACITY],
+    pub free: [u16; MAX_CAPACITY],
     pub free_len: usize,
 }
 
@@ -50,26 +54,29 @@ impl Index {
         ensures { result ≡ no_index }
     {
         Index {
-            heads: [0; 512],
+            heads: [0; MAX_BUCKETS],
             buckets: 0,
-            next: [0; 256],
-            free: [0; 256],
+            next: [0; MAX_CAPACITY],
+            free: [0; MAX_CAPACITY],
             free_len: 0,
         }
     }
 
-    // Refused where the arrays do not hold the sizes.
+    // The first test of each call: sizes that the arrays hold.
     #[tactic(auto, using(basics::proofs::Tests::tests), unfolding(crate::specs::Chain::sizes))]
     pub fn check_sized(&self, capacity: usize) -> Result<(), Refusal>
         ensures test { MatchResult result (λ _. sized capacity self.now ≡ true)
             (λ why. (why ≡ Refusal.Stop) × (sized capacity self.now ≡ false)) }
         ensures bounds { OnOk result (Sized capacity self.now.buckets self.now.free_len) }
     {
-        if capacity <= 256 && 0 < self.buckets && self.buckets <= 512 && self.free_len <= capacity {
-            Ok(())
-        } else {
-            Err(Refusal::Stop)
+        if MAX_CAPACITY < capacity
+            || self.buckets == 0
+            || MAX_BUCKETS < self.buckets
+            || capacity < self.free_len
+        {
+            return Err(Refusal::Stop);
         }
+        Ok(())
     }
 
     // The top of the stack.
@@ -128,11 +135,11 @@ impl Index {
 }
 
 // Every slot on the stack, 0 on top.
-fn full_stack(capacity: usize) -> [u16; 256]
+fn full_stack(capacity: usize) -> [u16; MAX_CAPACITY]
     requires { capacity ≤ 256 }
     ensures { result ≡ down capacity ++ replicate (256 - capacity) 0 }
 {
-    let mut free = [0; 256];
+    let mut free = [0; MAX_CAPACITY];
     for i in 0..capacity {
         free[i] = (capacity - 1 - i) as u16;
     }

@@ -18,7 +18,8 @@ use key::CacheKey;
 // The most slots of a chain.
 pub const MAX_CHAIN: usize = 64;
 
-// Whether the key's chain takes one more slot: it ends before the steps do.
+// Whether the key's chain takes one more slot: it ends before the steps do. One walk for this and `remove` would be no plainer: they end at different
+// slots, each by a rule of its own, and only `remove` keeps the place before.
 #[tactic(auto, using(basics::proofs::Tests::tests, crate::proofs::Cases::room_step, crate::proofs::Cases::room_end), unfolding(index::specs::Chain::can_insert))]
 pub fn can_insert(index: &Index, capacity: usize, key: CacheKey) -> Result<bool, Refusal>
     ensures { answer result ≡ can_insert capacity index.now key }
@@ -41,7 +42,8 @@ pub fn can_insert(index: &Index, capacity: usize, key: CacheKey) -> Result<bool,
     }
 }
 
-// Puts a slot that links to nothing at the front of the key's chain.
+// Puts a slot that links to nothing at the front of the key's chain. The sizes are tested before the head is read, as the rule has it, and once more in
+// `can_insert`, which stands by itself too.
 #[tactic(auto, using(basics::proofs::Tests::tests, key::proofs::Buckets::bucket_low), unfolding(index::specs::Chain::insert_index))]
 pub fn insert(
     mut index: Index,
