@@ -2,38 +2,26 @@
 -- Laws on a run: a byte of a line copied, one record, and none. Assumes nothing.
 use Prim.Native.Nat.{ℕ, zero, suc, ◌+◌, ◌-◌, ◌≤◌, ◌<◌}
 use native.Mathlib.Omega.{arith}
-use native.Mathlib.Numerals.{add-one}
 use mathlib.Core.Path.{◌≡◌, refl, sym, ◌∙◌, ap}
 use mathlib.Core.Bool.{true, false}
 use mathlib.Core.List.{List, [], ◌++◌, append_assoc, append-nil}
 use lib.Dec.{leb}
-use lib.ListN.{length, take, drop, set, get_or, length-drop}
-use lib.Seq.{take-suc-set, drop-drop, drop-cons, append_snoc, take_all}
+use lib.ListN.{length, drop}
+use lib.Seq.{drop-drop}
 use borrow.Author.Tests.{eq-eqb, ne_eqb, leb-true}
 use Rattle.basics.proofs.Tests.{is, yes!, no!, false_true}
 use Rattle.sheet_lines.specs.Words.{is_bad}
 use Rattle.sheet_lines.specs.Record.{in_range, read_record}
 use Rattle.sheet_standing.specs.declared.Standing.{Standing}
-use Rattle.sheet_steps.specs.declared.Stepped.{Stepped}
+use Rattle.sheet_steps.specs.Standing.{Stepped}
 use Rattle.sheet_steps.specs.Steps.{step_record, step}
 use Rattle.sheet.specs.Run.{printed, in_front, line_after, or_end, run_from}
-
--- ---- a line, copied byte by byte
--- what is copied and what is left of the line stay the same list
-pub copied : (out bytes : List ℕ) (to from : ℕ) → to < length out → from < length bytes → take (to + 1) (set out to (get_or bytes from 0)) ++ drop (from + 1) bytes ≡ take to out ++ drop from bytes
-copied out bytes to from h k =
-    rw (add-one to, add-one from, take-suc-set out to (get_or bytes from 0) h)
-    (append_snoc (take to out) (get_or bytes from 0) (drop (suc from) bytes) ∙ ap (λ l. take to out ++ l) (sym (drop-cons bytes from 0 k)))
 
 -- two lists that are the same from a place on are so from a later one on
 pub later : (a b : List ℕ) (m n : ℕ) → m ≤ n → drop m a ≡ drop m b → drop n a ≡ drop n b
 later a b m n h e =
     let k : m + (n - m) ≡ n = omega arith in
     ap (λ i. drop i a) (sym k) ∙ sym (drop-drop (n - m) m a) ∙ ap (drop (n - m)) e ∙ drop-drop (n - m) m b ∙ ap (λ i. drop i b) k
-
--- what is lent of a list from a place on is the rest of it
-pub rest : (l : List ℕ) (at : ℕ) → take (length l - at) (drop at l) ≡ drop at l
-rest l at = take_all (length l - at) (drop at l) (simp length-drop (omega arith))
 
 -- ---- one record, and none
 pub no_record : (left : ℕ) (s : Standing) (n : ℕ) (bytes : List ℕ) → left ≤ 0 → run_from left s n bytes ≡ printed s n false []
@@ -61,20 +49,21 @@ good_step (suc left) s n bytes p h good =
     let e : suc left - 1 ≡ left = omega arith in
     rw (ne_eqb (length bytes) 0 some, good, e)
 
--- the same behind what is printed before: the list ends, the bytes do, the record is `bad`, or there are more
-module _ (left : ℕ) (s : Standing) (n : ℕ) (bytes before : List ℕ) where
-  pub run_full : left ≤ 0 → printed s n false before ≡ in_front before (run_from left s n bytes)
-  run_full h = rw (no_record left s n bytes h, append-nil)
+-- the same behind what is printed before, up to the record `last`: the list ends, the bytes do, the record is `bad`, or there are more
+pub run_full : (last : ℕ) (s : Standing) (n : ℕ) (bytes before : List ℕ) → last ≤ n → printed s n false before ≡ in_front before (run_from (last - n) s n bytes)
+run_full last s n bytes before h = rw (no_record (last - n) s n bytes (omega arith), append-nil)
 
-  pub run_end : length bytes ≤ 0 → printed s n false before ≡ in_front before (run_from left s n bytes)
-  run_end h = rw (no_bytes left s n bytes h, append-nil)
+pub run_end : (last : ℕ) (s : Standing) (n : ℕ) (bytes before : List ℕ) → length bytes ≡ 0 → printed s n false before ≡ in_front before (run_from (last - n) s n bytes)
+run_end last s n bytes before h = rw (no_bytes (last - n) s n bytes (omega arith), append-nil)
 
-  module _ (after : List ℕ) (st : Stepped) (stepped : st ≡ step s bytes) (some : 0 < left) (more : 0 < length bytes) (line : after ≡ before ++ line_after n st) where
-    pub run_bad : is_bad st.said ≡ true → printed st.standing n true after ≡ in_front before (run_from left s n bytes)
-    run_bad bad = rw (line, bad_step left s n bytes some more (rw stepped at bad), stepped)
+module _ (last : ℕ) (s : Standing) (n : ℕ) (bytes before after : List ℕ) (st : Stepped) (stepped : st ≡ step s bytes) (turn : n < last) (more : length bytes ≡ 0 → ⊥) (line : after ≡ before ++ line_after n st) where
+  pub run_bad : is_bad st.said ≡ true → printed st.standing n true after ≡ in_front before (run_from (last - n) s n bytes)
+  run_bad bad = rw (line, bad_step (last - n) s n bytes (omega arith) (omega arith) (rw stepped at bad), stepped)
 
-    pub run_on : is_bad st.said ≡ false → in_front after (run_from (left - 1) st.standing (n + 1) (drop 24 bytes)) ≡ in_front before (run_from left s n bytes)
-    run_on good = rw (line, good_step left s n bytes some more (rw stepped at good), stepped, append_assoc)
+  pub run_on : is_bad st.said ≡ false → in_front after (run_from (last - (n + 1)) st.standing (n + 1) (drop 24 bytes)) ≡ in_front before (run_from (last - n) s n bytes)
+  run_on good =
+      let one : last - (n + 1) ≡ last - n - 1 = omega arith in
+      rw (line, good_step (last - n) s n bytes (omega arith) (omega arith) (rw stepped at good), stepped, append_assoc, one)
 
 -- "a short tail" prints `bad`: a record that did not was whole
 pub whole : (s : Standing) (bytes : List ℕ) (st : Stepped) → st ≡ step s bytes → is_bad st.said ≡ false → 24 ≤ length bytes

@@ -3,7 +3,7 @@
 use Rattle.std.specs.Prelude.{ℕ, zero, suc, ◌+◌, ◌*◌, ◌/◌, ◌-◌, min, Bool, true, false, List, [], ◌++◌, eqb, ltb, length, drop, take, if◌then◌else◌}
 use Rattle.basics.specs.Numbers.{MAX}
 use Rattle.sheet_standing.specs.declared.Standing.{Standing}
-use Rattle.sheet_steps.specs.declared.Stepped.{Stepped}
+use Rattle.sheet_steps.specs.Standing.{Stepped}
 use Rattle.sheet.specs.declared.Ran.{Ran}
 use Rattle.sheet_lines.specs.Words.{is_bad, line_of}
 use Rattle.sheet_steps.specs.Standing.{start, clean_of, loading_of}

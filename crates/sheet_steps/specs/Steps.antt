@@ -1,14 +1,14 @@
 -- SPDX-License-Identifier: Apache-2.0
 -- "Codes: 1 new, 2 access, 3 publish, 4 abort, 5 lookup, 6 remove slot, 7 set pin of a clean slot, 8 resize, 9 reclaim"
-use Rattle.std.specs.Prelude.{Option as Maybe, Some, None, ℕ, zero, suc, ◌+◌, Bool, true, not, List, eqb, length, get_or, set, if◌then◌else◌}
+use Rattle.std.specs.Prelude.{Option as Maybe, Some, None, ℕ, zero, suc, ◌+◌, Bool, not, List, eqb, length, get_or, set, if◌then◌else◌}
 use Rattle.std.proofs.Math.Option.{Option, none, some}
 use Rattle.basics.specs.Try.{Try, ok, refuse}
 use Rattle.basics.specs.Refusals.{STALE}
 use Rattle.basics.specs.Numbers.{NONE}
-use Rattle.basics.specs.declared.Done.{Done}
 use Rattle.basics.specs.Answers.{Fine, done}
 use Rattle.eviction.specs.Victim.{unpinned}
 use Rattle.state.specs.declared.State.{State}
+use Rattle.state.specs.declared.LoadToken.{LoadToken}
 use Rattle.state.specs.Answers.{Given, hit, in_progress, reserved, evicted, busy, After}
 use Rattle.state.specs.Fresh.{new}
 use Rattle.state.specs.Access.{access}
@@ -22,9 +22,8 @@ use Rattle.maintenance_resize.specs.Resize.{resize}
 use Rattle.sheet_lines.specs.declared.Record.{Record}
 use Rattle.sheet_standing.specs.declared.Standing.{Standing}
 use Rattle.sheet_lines.specs.declared.Said.{Said}
-use Rattle.sheet_steps.specs.declared.Stepped.{Stepped}
 use Rattle.sheet_lines.specs.Record.{read_record}
-use Rattle.sheet_steps.specs.Standing.{no_pins, afresh, with_state, with_pins, with_token, place_at, lent_pins, lent_list, says}
+use Rattle.sheet_steps.specs.Standing.{Stepped, no_pins, afresh, with_state, with_pins, with_token, place_at, lent_pins, lent_list, says}
 
 -- 1: "A refused 1 leaves all as it was"
 unfoldable pub say_new : Standing → ℕ → State → Try Fine → Stepped
@@ -55,14 +54,15 @@ say_done s (ok done) = says s Said.Done
 say_done s (refuse n) = says s (Said.Refused n)
 
 -- 3 and 4: "An empty token place gives 6."
-unfoldable pub say_token : Standing → After Fine → Bool → Stepped
-say_token s a full = if full then say_done (with_state s a.table) a.answer else says s (Said.Refused STALE)
+unfoldable pub say_token : Standing → (LoadToken → After Fine) → Maybe LoadToken → Stepped
+say_token s call (Some k) = say_done (with_state s (call k).table) (call k).answer
+say_token s call None = says s (Said.Refused STALE)
 
 unfoldable pub step_publish : Standing → Record → Stepped
-step_publish s r = say_token s (publish s.state (place_at s r.place).token) (place_at s r.place).full
+step_publish s r = say_token s (publish s.state) (place_at s r.place)
 
 unfoldable pub step_abort : Standing → Record → Stepped
-step_abort s r = say_token s (abort s.state (place_at s r.place).token) (place_at s r.place).full
+step_abort s r = say_token s (abort s.state) (place_at s r.place)
 
 -- 5
 unfoldable pub say_found : Standing → Try (Option ℕ) → Stepped
@@ -80,11 +80,6 @@ say_removed s slot (refuse n) = says s (Said.Refused n)
 
 unfoldable pub step_remove : Standing → Record → Stepped
 step_remove s r = say_removed (with_state s (remove s.state r.number).table) r.number (remove s.state r.number).answer
-
--- what the code answers where `need_clean` is asked
-abbrev pub clean_answer : Done → Try Bool
-clean_answer Done.Done = ok true
-clean_answer (Done.Refused n) = refuse n
 
 -- 7: "set pin of a clean slot (allow = 1 pins; 5, 8 as above)"
 unfoldable pub say_pinned : Standing → ℕ → Bool → Try Bool → Stepped

@@ -87,10 +87,9 @@ fn run<R: Print + Eprint>(
     let mut number = first;
     let mut written = 0;
     for record in bytes.chunks(sheet_lines::RECORD) {
-        let stepped = sheet_steps::step(s, record);
-        s = stepped.standing;
-        written = put_record(out, written, number, stepped.said, &s);
-        if sheet_lines::is_bad(stepped.said) {
+        let said = sheet_steps::step(&mut s, record);
+        written = put_record(out, written, number, said, &s);
+        if sheet_lines::is_bad(said) {
             flush(rt, out, written, 0)?;
             return Ok(None);
         }
