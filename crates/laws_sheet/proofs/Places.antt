@@ -1,6 +1,6 @@
 -- SPDX-License-Identifier: Apache-2.0
 -- The token places, and what a refused record leaves. Assumes nothing.
-use Rattle.std.proofs.Common.{if◌then◌else◌}
+use Rattle.std.proofs.Common.{Option as Maybe, Some, None, if◌then◌else◌}
 use Prim.Native.Nat.{ℕ}
 use native.Mathlib.Omega.{arith}
 use mathlib.Core.Path.{◌≡◌, refl, ap}
@@ -14,6 +14,7 @@ use Rattle.basics.specs.Try.{Try, ok, refuse}
 use Rattle.basics.specs.Answers.{Fine, done}
 use Rattle.basics.proofs.Tests.{is, yes!, no! }
 use Rattle.state.specs.declared.State.{State}
+use Rattle.state.specs.declared.LoadToken.{LoadToken}
 use Rattle.state.specs.Answers.{Given, hit, in_progress, reserved, evicted, busy, After}
 use Rattle.state.specs.Fresh.{new}
 use Rattle.state.specs.Tokens.{publish, abort}
@@ -23,8 +24,7 @@ use Rattle.maintenance_resize.specs.Answers.{Size, unchanged, busy_now, resized}
 use Rattle.sheet_lines.specs.declared.Record.{Record}
 use Rattle.sheet_lines.specs.declared.Said.{Said}
 use Rattle.sheet_standing.specs.declared.Standing.{Standing}
-use Rattle.sheet_steps.specs.declared.Stepped.{Stepped}
-use Rattle.sheet_steps.specs.Standing.{with_state, place_at}
+use Rattle.sheet_steps.specs.Standing.{Stepped, with_state, place_at}
 use Rattle.sheet_steps.specs.Steps.{say_new, step_new, say_access, access_of, step_access, say_done, say_token, step_publish, step_abort, say_found, step_lookup}
 use Rattle.sheet_steps.specs.Steps.{say_removed, step_remove, say_pinned, step_pin, say_size, resize_of, step_resize}
 use Rattle.sheet_steps.specs.Steps.{say_count, reclaim_of, step_reclaim, step_code, step_record}
@@ -66,10 +66,10 @@ unfolding say_done
 stay_done s (ok done) = refl
 stay_done s (refuse n) = refl
 
-stay_token : (s : Standing) (a : After Fine) (full : Bool) → Stay s (say_token s a full)
+stay_token : (s : Standing) (call : LoadToken → After Fine) (p : Maybe LoadToken) → Stay s (say_token s call p)
 unfolding say_token
-stay_token s a true = stay_done (with_state s a.table) a.answer
-stay_token s a false = refl
+stay_token s call (Some k) = stay_done (with_state s (call k).table) (call k).answer
+stay_token s call None = refl
 
 stay_found : (s : Standing) (a : Try (Option ℕ)) → Stay s (say_found s a)
 unfolding say_found
@@ -102,11 +102,11 @@ stay_count s count (refuse n) = refl
 module _ (s : Standing) (r : Record) where
   stay_publish : Stay s (step_publish s r)
   unfolding step_publish
-  stay_publish = let p = place_at s r.place in stay_token s (publish s.state p.token) p.full
+  stay_publish = stay_token s (publish s.state) (place_at s r.place)
 
   stay_abort : Stay s (step_abort s r)
   unfolding step_abort
-  stay_abort = let p = place_at s r.place in stay_token s (abort s.state p.token) p.full
+  stay_abort = stay_token s (abort s.state) (place_at s r.place)
 
   stay_lookup : Stay s (step_lookup s r)
   unfolding step_lookup

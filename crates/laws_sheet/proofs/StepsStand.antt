@@ -1,6 +1,6 @@
 -- SPDX-License-Identifier: Apache-2.0
 -- Every record leaves what stands in order, and says only what its code can. Assumes nothing.
-use Rattle.std.proofs.Common.{Some, None, if◌then◌else◌}
+use Rattle.std.proofs.Common.{Option as Maybe, Some, None, if◌then◌else◌}
 use Prim.Native.Nat.{ℕ, ◌≤◌, ◌^◌}
 use native.Mathlib.Omega.{arith}
 use mathlib.Core.Path.{◌≡◌, refl, sym, ap, subst}
@@ -8,7 +8,7 @@ use mathlib.Core.Bool.{Bool, true, false, not, ◌&&◌}
 use mathlib.Core.List.{List}
 use mathlib.Core.Option.{Option, none, some}
 use lib.Dec.{eqb, ltb, leb}
-use borrow.Author.Tests.{eqb-true, eqb-false, ltb-true, leb-true}
+use borrow.Author.Tests.{eqb-true, eqb-false, ltb-true, leb-true, eq-eqb, ne_eqb}
 use Rattle.basics.specs.Try.{Try, ok, refuse}
 use Rattle.basics.specs.Lists.{some?}
 use Rattle.basics.specs.Refusals.{STALE}
@@ -16,6 +16,7 @@ use Rattle.basics.specs.Capacity.{need_capacity}
 use Rattle.basics.specs.Answers.{Fine, done}
 use Rattle.basics.proofs.Tests.{is, yes!, no!, and_left}
 use Rattle.state.specs.declared.State.{State}
+use Rattle.state.specs.declared.LoadToken.{LoadToken}
 use Rattle.state.specs.Answers.{Given, hit, in_progress, reserved, evicted, busy, After}
 use Rattle.state.specs.Fresh.{empty, fresh, new}
 use Rattle.state.specs.Access.{access}
@@ -30,8 +31,7 @@ use Rattle.sheet_lines.specs.declared.Said.{Said}
 use Rattle.sheet_lines.specs.Record.{byte_at, in_range, fields_of, read_record}
 use Rattle.sheet_standing.specs.declared.Standing.{Standing}
 use Rattle.sheet_steps.specs.Standing.{start, afresh, with_state, place_at, lent_pins, lent_list, says}
-use Rattle.sheet_steps.specs.Steps.{say_new, step_new, say_access, access_of, step_access, say_done, say_token, step_publish, step_abort, say_found, step_lookup, say_removed, step_remove, say_pinned, step_pin, say_size, resize_of, step_resize, say_count, reclaim_of, step_reclaim, step_code, step}
-use Rattle.sheet_steps.proofs.Cases.{step_bad, step_new_lem, step_before, step_code_lem}
+use Rattle.sheet_steps.specs.Steps.{say_new, step_new, say_access, access_of, step_access, say_done, say_token, step_publish, step_abort, say_found, step_lookup, say_removed, step_remove, say_pinned, step_pin, say_size, resize_of, step_resize, say_count, reclaim_of, step_reclaim, step_code, step_record, step}
 use Rattle.laws_table.proofs.FreshTable.{fresh_valid}
 use Rattle.laws_sheet.specs.Orderly.{InOrder, Orderly, unmade!, made!, Counted}
 use Rattle.laws_sheet.specs.Refusals.{refusable, sayable, spent_by, Fair}
@@ -77,10 +77,10 @@ module _ (s : Standing) (st : s.stands ≡ true) (n : ℕ) where
   say_done_lem code u (ok done) l = record { orderly = made! st l.order; counted = l.counted; said = refl }
   say_done_lem code u (refuse m) l = record { orderly = made! st l.order; counted = l.counted; said = l.answer }
 
-  say_token_lem : (code : ℕ) (a : After Fine) (full : Bool) → Fair n code (says s (Said.Refused STALE)) → Leaves n code s.pins a → Fair n code (say_token s a full)
+  say_token_lem : (code : ℕ) (call : LoadToken → After Fine) (p : Maybe LoadToken) → Fair n code (says s (Said.Refused STALE)) → ((k : LoadToken) → Leaves n code s.pins (call k)) → Fair n code (say_token s call p)
   unfolding say_token
-  say_token_lem code a true stale l = say_done_lem code a.table a.answer l
-  say_token_lem code a false stale l = stale
+  say_token_lem code call (Some k) stale l = say_done_lem code (call k).table (call k).answer (l k)
+  say_token_lem code call None stale l = stale
 
   say_found_lem : (u : State) (a : Try (Option ℕ)) → Leaves n 5 s.pins (record { table = u; answer = a }) → Fair n 5 (say_found (with_state s u) a)
   unfolding say_found
@@ -128,11 +128,11 @@ module _ (s : Standing) (st : s.stands ≡ true) (n : ℕ) (g : InOrder s.state 
 
   publish_fair : Fair n 3 (step_publish s r)
   unfolding step_publish refusable some?
-  publish_fair = let p = place_at s r.place in say_token_lem s st n 3 (publish s.state p.token) p.full (stale 3 refl) (publish_leaves n s.state s.pins g k p.token)
+  publish_fair = say_token_lem s st n 3 (publish s.state) (place_at s r.place) (stale 3 refl) (publish_leaves n s.state s.pins g k)
 
   abort_fair : Fair n 4 (step_abort s r)
   unfolding step_abort refusable some?
-  abort_fair = let p = place_at s r.place in say_token_lem s st n 4 (abort s.state p.token) p.full (stale 4 refl) (abort_leaves n s.state s.pins g k p.token)
+  abort_fair = say_token_lem s st n 4 (abort s.state) (place_at s r.place) (stale 4 refl) (abort_leaves n s.state s.pins g k)
 
   lookup_fair : Fair n 5 (step_lookup s r)
   unfolding step_lookup
@@ -187,18 +187,36 @@ module _ (s : Standing) (st : s.stands ≡ true) (n : ℕ) (g : InOrder s.state 
       ]
 
 -- ── every record ──
+-- its step, by what was read
+step_bad : (s : Standing) (bytes : List ℕ) → read_record bytes ≡ None → step s bytes ≡ says s Said.Bad
+unfolding step step_record
+step_bad s bytes e = rw e
+
+module _ (s : Standing) (bytes : List ℕ) (r : Record) (w : read_record bytes ≡ Some r) where
+  step_new_lem : r.code ≡ 1 → step s bytes ≡ step_new s r
+  unfolding step step_record
+  step_new_lem e = rw (w, eq-eqb _ _ e)
+
+  step_before : (r.code ≡ 1 → ⊥) → not s.stands ≡ true → step s bytes ≡ says s Said.Bad
+  unfolding step step_record
+  step_before n t = rw (w, ne_eqb _ _ n, t)
+
+  step_code_lem : (r.code ≡ 1 → ⊥) → not s.stands ≡ false → step s bytes ≡ step_code s r r.code
+  unfolding step step_record
+  step_code_lem n t = rw (w, ne_eqb _ _ n, t)
+
 module _ (s : Standing) (n : ℕ) (k : Counted n s.state) (bytes : List ℕ) (r : Record) (w : read_record bytes ≡ Some r) where
   later_fair : (r.code ≡ 1 → ⊥) → Orderly s → Fair n r.code (step s bytes)
   unfolding start
-  later_fair ne (unmade! e) = rw (step_before s bytes r refl w ne (ap (λ (x : Standing). not x.stands) e)) (stays s n r.code Said.Bad (unmade! e) k refl)
-  later_fair ne (made! st g) = rw (step_code_lem s bytes r refl w ne (ap not st)) (code_fair s st n g k r r.code)
+  later_fair ne (unmade! e) = rw (step_before s bytes r w ne (ap (λ (x : Standing). not x.stands) e)) (stays s n r.code Said.Bad (unmade! e) k refl)
+  later_fair ne (made! st g) = rw (step_code_lem s bytes r w ne (ap not st)) (code_fair s st n g k r r.code)
 
   whole_fair : Orderly s → Fair n r.code (step s bytes)
   whole_fair o =
       elim (is (eqb r.code 1)) [
         | yes! e ↦
             let one = eqb-true r.code 1 e in
-            rw (step_new_lem s bytes r refl w one) (subst (λ (c : ℕ). Fair n c (step_new s r)) (sym one) (new_fair s n o k r))
+            rw (step_new_lem s bytes r w one) (subst (λ (c : ℕ). Fair n c (step_new s r)) (sym one) (new_fair s n o k r))
         | no! e ↦ later_fair (eqb-false r.code 1 e) o
       ]
 
@@ -215,5 +233,5 @@ unfolding fields_of
 step_fair s n o k bytes =
     elim (is (in_range bytes)) [
       | yes! e ↦ whole_fair s n k bytes (fields_of bytes) (read_whole bytes e) o
-      | no! e ↦ rw (step_bad s bytes refl (read_bad bytes e)) (stays s n (byte_at bytes 0) Said.Bad o k refl)
+      | no! e ↦ rw (step_bad s bytes (read_bad bytes e)) (stays s n (byte_at bytes 0) Said.Bad o k refl)
     ]

@@ -1,7 +1,6 @@
 -- SPDX-License-Identifier: Apache-2.0
 -- What a record does to the token places and what it leaves as it was, of every standing and every record.
-use Rattle.std.specs.Prelude.{ℕ, ◌<◌, ◌≡◌, true, false, List, ◌⊎◌, set}
-use Rattle.std.specs.declared.option.Option.TheVariants.{Some}
+use Rattle.std.specs.Prelude.{ℕ, ◌<◌, ◌≡◌, true, Option as Maybe, Some, List, ◌⊎◌, set}
 use Rattle.std.proofs.Math.Option.{Option, none, some}
 use Rattle.basics.specs.Try.{Try, ok, refuse}
 use Rattle.basics.specs.Refusals.{STALE}
@@ -9,10 +8,8 @@ use Rattle.state.specs.declared.LoadToken.{LoadToken}
 use Rattle.state.specs.Answers.{Given, hit, in_progress, reserved, evicted, busy}
 use Rattle.sheet_lines.specs.declared.Record.{Record}
 use Rattle.sheet_lines.specs.declared.Said.{Said}
-use Rattle.sheet_standing.specs.declared.Place.{Place}
 use Rattle.sheet_standing.specs.declared.Standing.{Standing}
-use Rattle.sheet_steps.specs.declared.Stepped.{Stepped}
-use Rattle.sheet_steps.specs.Standing.{holding, place_at, says}
+use Rattle.sheet_steps.specs.Standing.{Stepped, empty_place, holding, place_at, says}
 use Rattle.sheet_steps.specs.Steps.{access_of, step_record}
 
 -- the step of a record that was read
@@ -32,7 +29,7 @@ token_of (ok (evicted k)) = some k
 token_of (ok busy) = none
 token_of (refuse n) = none
 
-abbrev pub put_in : List Place → ℕ → Option LoadToken → List Place
+abbrev pub put_in : List (Maybe LoadToken) → ℕ → Option LoadToken → List (Maybe LoadToken)
 put_in places place none = places
 put_in places place (some k) = set places place (holding k)
 
@@ -48,5 +45,5 @@ TokensStay = (s : Standing) (r : Record) → 2 < r.code → (step_of s r).standi
 -- "An empty token place gives 6", of a publish and of an abort, and all is as it was
 abbrev pub EmptyPlace : Type 0
 EmptyPlace =
-    (s : Standing) (r : Record) → s.stands ≡ true → (r.code ≡ 3) ⊎ (r.code ≡ 4) → (place_at s r.place).full ≡ false
+    (s : Standing) (r : Record) → s.stands ≡ true → (r.code ≡ 3) ⊎ (r.code ≡ 4) → place_at s r.place ≡ empty_place
     → step_of s r ≡ says s (Said.Refused STALE)

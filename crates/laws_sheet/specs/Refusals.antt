@@ -6,7 +6,7 @@ use Rattle.basics.specs.Lists.{some?}
 use Rattle.basics.specs.Numbers.{MAX}
 use Rattle.basics.specs.Refusals.{INVALID, ALLOCATION, PINS, LIST, SLOT, STALE, EXHAUSTED, UNCLEAN, UNGIVEN, STOP}
 use Rattle.sheet_lines.specs.declared.Said.{Said}
-use Rattle.sheet_steps.specs.declared.Stepped.{Stepped}
+use Rattle.sheet_steps.specs.Standing.{Stepped}
 use Rattle.laws_sheet.specs.Orderly.{Orderly, Counted}
 
 -- those of each code; `spent` says whether a use number or a generation may be spent
