@@ -37,7 +37,8 @@ pub enum Said {
     Bad,
 }
 
-// A line of text, filled from the end of its bytes, as digits are found: it begins at `from`.
+// A line of text, which begins at `from` and ends with its bytes: filled from its end, since `itoa` gives a number's digits where they are to end, and
+// nothing is moved after.
 #[derive(Clone, Copy)]
 pub struct Line {
     pub bytes: [u8; 96],

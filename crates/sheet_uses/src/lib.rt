@@ -39,7 +39,8 @@ pub fn uses_number(code: u8) -> bool
     code == 1 || 5 < code
 }
 
-// Whether a call uses a field, by document 01's order: 0 code, 1 allow, 2 kind, 3 place, 4 number, 5 file, 6 index. The code is no field of its own.
+// Whether a call uses a field, by document 01's order: 0 code, 1 allow, 2 kind, 3 place, 4 number, 5 file, 6 index. The code is no field of its own. A
+// number and no enum: the rule `uses` is on numbers, and reads any other as the key's.
 #[tactic(auto, using(basics::proofs::Tests::tests), unfolding(crate::specs::Uses::uses))]
 pub fn uses(code: u8, field: usize) -> bool
     ensures { result ≡ uses code field }

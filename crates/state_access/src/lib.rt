@@ -19,7 +19,7 @@ use key::CacheKey;
 use state::{Access, CLEAN, Counters, LOADING, LoadToken, Outcome, Slot, State};
 use state_search::Seen;
 
-// Index, heap and number of clean slots once a slot is free for a key, and whether a clean key left it.
+// Index, heap and number of clean slots once a slot is free for a key, and whether a clean key left it: a fact of the reservation, and no answer.
 #[derive(Clone, Copy)]
 struct Freed {
     index: Index,
@@ -108,7 +108,8 @@ fn reserve(t: &mut State, key: CacheKey, slot: usize) -> Result<Access, Refusal>
     })
 }
 
-// Access on the table in place, which a refusal leaves as `access` says.
+// Access on the table in place, which a refusal leaves as `access` says. The first test of 10 is made here too, since that of the pins stands between it
+// and `seek`, whose walk has its own: the rule has both.
 #[tactic(auto, using(basics::proofs::Tests::tests), unfolding(state::specs::Access::access, state::specs::Access::access_seen, state::specs::Access::miss, state::specs::Access::reserve_at, state::specs::Access::capacity_busy, state::specs::Find::seek, state::specs::Find::seek_at))]
 fn access_in(t: &mut State, key: CacheKey, allow_load: bool, pins: &[u8]) -> Result<Access, Refusal>
     ensures { record { table = t.new; answer = access_answer result } ≡ access_rule t.old key allow_load pins.now }

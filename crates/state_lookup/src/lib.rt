@@ -17,10 +17,10 @@ use state_search::Seen;
 pub fn lookup(mut t: State, key: CacheKey) -> Outcome<Option<usize>>
     ensures { looked_after result ≡ lookup_rule t key }
 {
-    let answer = match state_search::seek(&mut t, key) {
-        Ok(Seen::Hit(slot)) => Ok(Some(slot)),
-        Ok(Seen::Loading | Seen::Absent) => Ok(None),
-        Err(why) => Err(why),
-    };
+    let seen = state_search::seek(&mut t, key);
+    let answer = seen.map(|seen| match seen {
+        Seen::Hit(slot) => Some(slot),
+        Seen::Loading | Seen::Absent => None,
+    });
     Outcome { state: t, answer }
 }
