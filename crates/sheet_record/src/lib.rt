@@ -9,18 +9,25 @@ ghost use Rattle.sheet_record.specs.Good.{good};
 use sheet_lines::Record;
 
 // The bytes that are read as the record; of a record off its range, bytes that are read as `bad`.
+#[tactic(auto, using(crate::proofs::Laws::far_place, crate::proofs::Laws::far_number), unfolding(sheet_lines::specs::Record::read_record, sheet_lines::specs::Record::in_range))]
 pub fn write_record(call: Record) -> [u8; 24]
     ensures { read_record result ≡ (if good call then Some call else None) }
 {
     let mut bytes = [0; 24];
-    if 15 < call.place || 0xffff_ffff < call.number {
+    let Ok(place) = u8::try_from(call.place) else {
+        return bytes;
+    };
+    let Ok(number) = u32::try_from(call.number) else {
+        return bytes;
+    };
+    if 15 < place {
         return bytes;
     }
     bytes[0] = call.code;
     bytes[1] = u8::from(call.allow);
     bytes[2] = call.key.kind;
-    bytes[3] = call.place as u8;
-    bytes[4..8].copy_from_slice(&(call.number as u32).to_le_bytes());
+    bytes[3] = place;
+    bytes[4..8].copy_from_slice(&number.to_le_bytes());
     bytes[8..16].copy_from_slice(&call.key.file.to_le_bytes());
     bytes[16..].copy_from_slice(&call.key.index.to_le_bytes());
     bytes

@@ -71,42 +71,43 @@ fn word_of(code: u8, allow: bool) -> &'static [u8]
     }
 }
 
-// It with its number, where the call uses one.
+// The front of a line that is a call: its word, with its number where it uses one.
 #[tactic(auto, using(basics::proofs::Tests::tests), unfolding(crate::specs::Form::call_text))]
-fn put_call(text: &mut Text, call: Record)
-    requires { array_vec_len text.old ≤ 0 }
-    ensures text_value { text_of text.new ≡ call_text call }
-    ensures len_bound { array_vec_len text.new ≤ 60 }
+fn call_text(call: Record) -> Text
+    ensures text_value { text_of result ≡ call_text call }
+    ensures len_bound { array_vec_len result ≤ 60 }
 {
-    put(text, word_of(call.code, call.allow));
+    let mut text = ArrayVec::new();
+    put(&mut text, word_of(call.code, call.allow));
     if uses_number(call.code) {
-        put_number(text, call.number as u64);
+        put_number(&mut text, call.number as u64);
     }
+    text
 }
 
 // The front of a line that tells every field.
 #[tactic(auto, unfolding(crate::specs::Form::record_text, sheet_lines::specs::Text::bytes_of))]
-fn put_record(text: &mut Text, call: Record)
-    requires { array_vec_len text.old ≤ 0 }
-    ensures text_value { text_of text.new ≡ record_text call }
-    ensures len_bound { array_vec_len text.new ≤ 60 }
+fn record_text(call: Record) -> Text
+    ensures text_value { text_of result ≡ record_text call }
+    ensures len_bound { array_vec_len result ≤ 60 }
 {
-    put(text, b"record code=");
-    put_number(text, u64::from(call.code));
-    put_field(text, b" number=", call.number as u64, 0);
+    let mut text = ArrayVec::new();
+    put(&mut text, b"record code=");
+    put_number(&mut text, u64::from(call.code));
+    put_field(&mut text, b" number=", call.number as u64, 0);
+    text
 }
 
 // The front of a line: the fields behind it are told by their names.
 #[tactic(auto, using(basics::proofs::Tests::tests), unfolding(crate::specs::Form::head_text))]
-fn put_head(text: &mut Text, call: Record)
-    requires { array_vec_len text.old ≤ 0 }
-    ensures text_value { text_of text.new ≡ head_text call }
-    ensures len_bound { array_vec_len text.new ≤ 60 }
+fn head_text(call: Record) -> Text
+    ensures text_value { text_of result ≡ head_text call }
+    ensures len_bound { array_vec_len result ≤ 60 }
 {
     if only_used(call) {
-        put_call(text, call);
+        call_text(call)
     } else {
-        put_record(text, call);
+        record_text(call)
     }
 }
 
@@ -124,8 +125,7 @@ pub fn show_record(call: Record) -> Text
     ensures result_value { text_of result ≡ shown call }
     ensures len_bound { array_vec_len result ≤ 200 }
 {
-    let mut text = ArrayVec::new();
-    put_head(&mut text, call);
+    let mut text = head_text(call);
     put_field(&mut text, b" file=", call.key.file, 0);
     put_field(&mut text, b" kind=", u64::from(call.key.kind), 0);
     put_field(&mut text, b" index=", call.key.index, 0);
