@@ -1,9 +1,9 @@
 -- SPDX-License-Identifier: Apache-2.0
 -- Tests: a Bool with what it is known to be, the fact behind a test, and what a rule that answered `ok` went through.
 -- Assumes nothing.
-use Prim.Native.Nat.{ℕ, zero, suc, ◌-◌}
+use Prim.Native.Nat.{ℕ, zero, suc, ◌+◌, ◌-◌, ◌≤◌, ◌<◌}
 use mathlib.Core.Path.{◌≡◌, refl, sym, ◌∙◌}
-use mathlib.Core.Bool.{Bool, true, false, ◌&&◌}
+use mathlib.Core.Bool.{Bool, true, false, ◌&&◌, false≢true}
 use mathlib.Core.Option.{Option, none, some}
 use native.Mathlib.Omega.{arith}
 use lib.Dec.{ltb}
@@ -19,9 +19,6 @@ pub is : (b : Bool) → Is b
 is true = yes! refl
 is false = no! refl
 
-pub false_true : false ≡ true → ⊥
-false_true e = let w : ◌≡◌ {A = ℕ} 0 1 = cc in omega arith
-
 pub some_same : {A : Type 0} {a b : A} → ◌≡◌ {A = Option A} (some a) (some b) → a ≡ b
 some_same e = cc
 
@@ -35,7 +32,7 @@ and_left false b e = e
 
 pub and_right : (a b : Bool) → a && b ≡ true → b ≡ true
 and_right true b e = e
-and_right false b e = absurd (false_true e)
+and_right false b e = absurd (false≢true e)
 
 -- a number that is tested against 0
 pub no_ltb : (n : ℕ) → n ≡ 0 → ltb 0 n ≡ false
@@ -52,18 +49,25 @@ pub ruleset tests = (lt-ltb, le-ltb, le-leb, lt-leb, eq-eqb, ne_eqb, no_ltb, som
 pub flag : {r s b : Bool} → r ≡ s → r ≡ b → s ≡ b
 flag e n = sym e ∙ n
 
--- a loop that counts down: one step on
-pub one_less_lem : (n : ℕ) → suc n - 1 ≡ n
-one_less_lem n = omega arith
+-- the steps left of a loop that counts up to c: at one of them, and behind the last
+pub left_suc : (c i : ℕ) → i < c → c - i ≡ suc (c - (i + 1))
+left_suc c i l = omega arith
+
+pub left_none : (c i : ℕ) → c ≤ i → c - i ≡ 0
+left_none c i l = omega arith
+
+-- what is refused gave no value
+pub refuse_ok : {A : Type 0} {n : ℕ} {a : A} → ◌≡◌ {A = Try A} (refuse n) (ok a) → ⊥
+refuse_ok e = let w : ◌≡◌ {A = ℕ} 0 1 = cc in omega arith
 
 -- a need that was met, and a step that went on
 pub met : {A : Type 0} (b : Bool) (n : ℕ) (r : Try A) (a : A) → (need b n >> r) ≡ ok a → (b ≡ true) × (r ≡ ok a)
 met true n r a e = (refl, e)
-met false n r a e = let z : ◌≡◌ {A = ℕ} 0 1 = cc in absurd (omega arith)
+met false n r a e = absurd (refuse_ok e)
 
 pub went : {A B : Type 0} (x : Try A) (f : A → Try B) (b : B) → (x >>= f) ≡ ok b → (a : A) × (x ≡ ok a) × (f a ≡ ok b)
 went (ok a) f b e = (a, refl, e)
-went (refuse n) f b e = let z : ◌≡◌ {A = ℕ} 0 1 = cc in absurd (omega arith)
+went (refuse n) f b e = absurd (refuse_ok e)
 
 pub ok_same : {A : Type 0} {a b : A} → ◌≡◌ {A = Try A} (ok a) (ok b) → a ≡ b
 ok_same e = cc

@@ -2,7 +2,7 @@
 // What bench/ times of the port: a run sheet through the calls, one after the other on one table in a local. Only the calls that are timed
 // are taken, and no line is written. One code is added to a run sheet's: 10 is access through a gate, which stays as at first. The local is an
 // answer of access, so that access, the most frequent call, hands its table back to where it stays: that is one copy of the table less than a
-// local of the type State costs.
+// local of the type State costs. `as`: there is no `From` between u64 and usize, and `try_from` could fail.
 #![tactic(auto)]
 
 ghost use Rattle.std.specs.Prelude.{◌≡◌, ◌<◌};
@@ -102,16 +102,7 @@ fn of_maintenance(answer: Result<Maintenance, Refusal>) -> u64
 fn no_token() -> LoadToken
     ensures { result ≡ no_token }
 {
-    LoadToken {
-        slot: 0,
-        generation: 0,
-        key: CacheKey {
-            file: 0,
-            kind: 0,
-            index: 0,
-        },
-        access_sequence: 0,
-    }
+    LoadToken::default()
 }
 
 // A reservation puts its token in the named place.
@@ -142,6 +133,7 @@ pub extern "C" fn tallboycrow_bench(sheet: &[u64]) -> u64
         first: 0,
         second: 0,
     };
+    // A head's parts stand as its rule has them, by division: by `to_le_bytes` each part would need a law of the bytes.
     for record in sheet.chunks_exact(3) {
         let (head, file, index) = (record[0], record[1], record[2]);
         let place = (head / 16777216 % 16) as usize;
@@ -152,6 +144,7 @@ pub extern "C" fn tallboycrow_bench(sheet: &[u64]) -> u64
             index,
         };
         let count = held.state.capacity.min(basics::MAX_CAPACITY);
+        // The codes are document 01's numbers and 10. A byte may be any: the last arm takes the rest.
         match head % 256 {
             1 => {
                 let made = State::try_new(number);

@@ -1,11 +1,12 @@
 // SPDX-License-Identifier: Apache-2.0
 // What the programs over made-up tables share: cases are read, the calls that each of them makes alike are run, and answers are written.
-// oracle/README.md has the forms. As in `picture_numbers`, what is written ends at a place within `out`.
+// oracle/README.md has the forms. `as usize`, `as u16`: there is no `From` of u64 or usize for these, and `try_from` could fail.
 #![tactic(auto)]
 
 ghost use Rattle.std.specs.Prelude.{◌≡◌, ◌+◌, ◌≤◌, min, length, IfOk};
 ghost use Rattle.cases.specs.Places.{Within};
 ghost use Rattle.cases.specs.Bytes.{FAR as farthest, byte_at, low, numbers_at, key_at, call_at};
+ghost use Rattle.picture_numbers.specs.Wrote.{SameList};
 ghost use Rattle.picture.specs.Table.{count_numbers};
 
 use basics::Refusal;
@@ -13,6 +14,7 @@ use eviction::{Entry, EvictionHeap};
 use index::Index;
 use key::CacheKey;
 use maintenance_resize::Maintenance;
+use picture_numbers::Page;
 use state::{Access, CleanEntry, Counters, LoadToken, Outcome, Slot, State};
 use streams::Failed;
 
@@ -34,25 +36,18 @@ pub struct Table {
     pub end: usize,
 }
 
-// A table after a call, and the place behind the answer's text.
-#[derive(Clone, Copy)]
-pub struct Ran {
-    pub state: State,
-    pub at: usize,
-}
-
 // The bytes from `at` to `have` wait.
 #[derive(Clone, Copy)]
-pub struct Waiting {
-    pub at: usize,
-    pub have: usize,
+struct Waiting {
+    at: usize,
+    have: usize,
 }
 
 // The bytes of a call.
 pub const CALL: usize = 47;
 
-// More is written before this many bytes stand in `out`. A case's text is shorter than the rest of it.
-pub const FULL: usize = 131072;
+// A page is written out before this many bytes stand in it. A case's text is shorter than the rest of it.
+const FULL: usize = 131072;
 
 // Past the end of any bytes that are read here.
 const FAR: usize = 1048576;
@@ -83,6 +78,8 @@ fn low_2(bytes: &[u8], at: usize) -> u16
     u16::from_le_bytes([byte_at(bytes, at), byte_at(bytes, over(at, 1))])
 }
 
+// Each byte by itself. Tried: `bytes_at<const N: usize>` by `std::array::from_fn`; its proof did not close, since what from_fn ensures of a byte does not name
+// the closure's captures.
 #[tactic(auto, using(crate::proofs::Numbers::low_eight))]
 pub fn low_8(bytes: &[u8], at: usize) -> u64
     ensures { result ≡ low 8 bytes.now at }
@@ -202,35 +199,20 @@ pub fn read_table(bytes: &[u8], at: usize) -> Table
         capacity_busy: low_8(bytes, over(at, 56)),
     };
     let mut slots = [state::vacant_slot(); 256];
-    let mut heads = [0; 512];
-    let mut next = [0; 256];
-    let mut free = [0; 256];
-    let mut entries = [Entry {
-        slot: 0,
-        last_access: 0,
-    }; 256];
-    let mut positions = [0; 256];
+    let mut index = Index::none();
+    let mut eviction = EvictionHeap::none();
     let a = read_list(bytes, over(at, 80), &mut slots, capacity);
     let buckets = low_8(bytes, a) as usize;
-    let b = read_list(bytes, over(a, 8), &mut heads, buckets);
-    let c = read_list(bytes, b, &mut next, capacity);
+    index.buckets = buckets;
+    let b = read_list(bytes, over(a, 8), &mut index.heads, buckets);
+    let c = read_list(bytes, b, &mut index.next, capacity);
     let free_len = low_8(bytes, c) as usize;
-    let d = read_list(bytes, over(c, 8), &mut free, free_len);
+    index.free_len = free_len;
+    let d = read_list(bytes, over(c, 8), &mut index.free, free_len);
     let heap_len = low_8(bytes, d) as usize;
-    let e = read_list(bytes, over(d, 8), &mut entries, heap_len);
-    let end = read_list(bytes, e, &mut positions, capacity);
-    let index = Index {
-        heads,
-        buckets,
-        next,
-        free,
-        free_len,
-    };
-    let eviction = EvictionHeap {
-        entries,
-        len: heap_len,
-        positions,
-    };
+    eviction.len = heap_len;
+    let e = read_list(bytes, over(d, 8), &mut eviction.entries, heap_len);
+    let end = read_list(bytes, e, &mut eviction.positions, capacity);
     let state = State {
         slots,
         capacity,
@@ -272,240 +254,211 @@ pub fn read_call(bytes: &[u8], at: usize) -> Call
 // ---- Answers: the word, its number, how many more numbers there are, and these.
 
 // A word and a number.
-pub fn put_numbered(out: &mut [u8], at: usize, word: &[u8], number: usize, more: usize) -> usize
-    ensures { Within result out.old out.new }
+pub fn put_numbered(page: &mut Page, word: &[u8], number: usize, more: usize)
+    ensures { Within page.old page.new }
 {
-    let a = picture_numbers::put_text(out, at, b" ");
-    let b = picture_numbers::put_text(out, a, word);
-    let c = picture_numbers::put(out, b, number as u64);
-    picture_numbers::put(out, c, more as u64)
+    page.put_text(b" ");
+    page.put_text(word);
+    page.put(number);
+    page.put(more);
 }
 
 // A word that has none.
-fn put_word(out: &mut [u8], at: usize, word: &[u8], more: usize) -> usize
-    ensures { Within result out.old out.new }
+fn put_word(page: &mut Page, word: &[u8], more: usize)
+    ensures { Within page.old page.new }
 {
-    let a = picture_numbers::put_text(out, at, b" ");
-    let b = picture_numbers::put_text(out, a, word);
-    let c = picture_numbers::put_text(out, b, b" -");
-    picture_numbers::put(out, c, more as u64)
+    page.put_text(b" ");
+    page.put_text(word);
+    page.put_text(b" -");
+    page.put(more);
 }
 
-// `why` is the number of a refusal.
-pub fn put_refused(out: &mut [u8], at: usize, why: u8, more: usize) -> usize
-    ensures { Within result out.old out.new }
+// `why` stays the number of a refusal: a `Refusal` would be a narrower argument of a public function.
+pub fn put_refused(page: &mut Page, why: u8, more: usize)
+    ensures { Within page.old page.new }
 {
-    put_numbered(out, at, b"refused", usize::from(why), more)
+    put_numbered(page, b"refused", usize::from(why), more);
 }
 
-pub fn put_done(out: &mut [u8], at: usize, answer: Result<(), Refusal>) -> usize
-    ensures { Within result out.old out.new }
+pub fn put_done(page: &mut Page, answer: Result<(), Refusal>)
+    ensures { Within page.old page.new }
 {
     match answer {
-        Ok(()) => put_word(out, at, b"done", 0),
-        Err(why) => put_refused(out, at, u8::from(why), 0),
+        Ok(()) => put_word(page, b"done", 0),
+        Err(why) => put_refused(page, u8::from(why), 0),
     }
 }
 
-fn put_found(
-    out: &mut [u8],
-    at: usize,
-    answer: Result<Option<usize>, Refusal>,
-    word: &[u8],
-) -> usize
-    ensures { Within result out.old out.new }
+fn put_found(page: &mut Page, answer: Result<Option<usize>, Refusal>, word: &[u8])
+    ensures { Within page.old page.new }
 {
     match answer {
-        Ok(Some(slot)) => put_numbered(out, at, word, slot, 0),
-        Ok(None) => put_word(out, at, b"none", 0),
-        Err(why) => put_refused(out, at, u8::from(why), 0),
+        Ok(Some(slot)) => put_numbered(page, word, slot, 0),
+        Ok(None) => put_word(page, b"none", 0),
+        Err(why) => put_refused(page, u8::from(why), 0),
     }
 }
 
-fn put_key(out: &mut [u8], at: usize, key: CacheKey) -> usize
-    ensures { Within result out.old out.new }
+fn put_key(page: &mut Page, key: CacheKey)
+    ensures { Within page.old page.new }
 {
-    let a = picture_numbers::put(out, at, key.file);
-    let b = picture_numbers::put(out, a, u64::from(key.kind));
-    picture_numbers::put(out, b, key.index)
+    page.put(key.file);
+    page.put(key.kind);
+    page.put(key.index);
 }
 
-fn put_entry(
-    out: &mut [u8],
-    at: usize,
-    slot: usize,
-    answer: Result<Option<CleanEntry>, Refusal>,
-) -> usize
-    ensures { Within result out.old out.new }
+fn put_entry(page: &mut Page, slot: usize, answer: Result<Option<CleanEntry>, Refusal>)
+    ensures { Within page.old page.new }
 {
     match answer {
         Ok(Some(entry)) => {
-            let a = put_numbered(out, at, b"found", slot, 4);
-            let b = put_key(out, a, entry.key);
-            picture_numbers::put(out, b, entry.last_access)
+            put_numbered(page, b"found", slot, 4);
+            put_key(page, entry.key);
+            page.put(entry.last_access);
         }
-        Ok(None) => put_word(out, at, b"none", 0),
-        Err(why) => put_refused(out, at, u8::from(why), 0),
+        Ok(None) => put_word(page, b"none", 0),
+        Err(why) => put_refused(page, u8::from(why), 0),
     }
 }
 
 // A reservation's token.
-fn put_token(out: &mut [u8], at: usize, word: &[u8], token: LoadToken) -> usize
-    ensures { Within result out.old out.new }
+fn put_token(page: &mut Page, word: &[u8], token: LoadToken)
+    ensures { Within page.old page.new }
 {
-    let a = put_numbered(out, at, word, usize::from(token.slot), 6);
-    let b = picture_numbers::put(out, a, u64::from(token.slot));
-    let c = picture_numbers::put(out, b, token.generation);
-    let d = put_key(out, c, token.key);
-    picture_numbers::put(out, d, token.access_sequence)
+    put_numbered(page, word, usize::from(token.slot), 6);
+    page.put(token.slot);
+    page.put(token.generation);
+    put_key(page, token.key);
+    page.put(token.access_sequence);
 }
 
-pub fn put_access(out: &mut [u8], at: usize, answer: Result<Access, Refusal>) -> usize
-    ensures { Within result out.old out.new }
+pub fn put_access(page: &mut Page, answer: Result<Access, Refusal>)
+    ensures { Within page.old page.new }
 {
     match answer {
-        Ok(Access::Hit(slot)) => put_numbered(out, at, b"hit", slot, 0),
-        Ok(Access::LoadInProgress) => put_word(out, at, b"loading", 0),
-        Ok(Access::Reserved(token)) => put_token(out, at, b"reserved", token),
-        Ok(Access::Evicted(token)) => put_token(out, at, b"evicted", token),
-        Ok(Access::CapacityBusy) => put_word(out, at, b"busy", 0),
-        Err(why) => put_refused(out, at, u8::from(why), 0),
+        Ok(Access::Hit(slot)) => put_numbered(page, b"hit", slot, 0),
+        Ok(Access::LoadInProgress) => put_word(page, b"loading", 0),
+        Ok(Access::Reserved(token)) => put_token(page, b"reserved", token),
+        Ok(Access::Evicted(token)) => put_token(page, b"evicted", token),
+        Ok(Access::CapacityBusy) => put_word(page, b"busy", 0),
+        Err(why) => put_refused(page, u8::from(why), 0),
     }
 }
 
-fn put_maintenance(
-    out: &mut [u8],
-    at: usize,
-    answer: Result<Maintenance, Refusal>,
-    places: usize,
-) -> usize
-    ensures { Within result out.old out.new }
+fn put_maintenance(page: &mut Page, answer: Result<Maintenance, Refusal>, places: usize)
+    ensures { Within page.old page.new }
 {
     match answer {
-        Ok(Maintenance::Unchanged) => put_word(out, at, b"unchanged", places),
-        Ok(Maintenance::Busy) => put_word(out, at, b"busy", places),
-        Ok(Maintenance::Resized(capacity)) => put_numbered(out, at, b"resized", capacity, places),
-        Err(why) => put_refused(out, at, u8::from(why), places),
+        Ok(Maintenance::Unchanged) => put_word(page, b"unchanged", places),
+        Ok(Maintenance::Busy) => put_word(page, b"busy", places),
+        Ok(Maintenance::Resized(capacity)) => put_numbered(page, b"resized", capacity, places),
+        Err(why) => put_refused(page, u8::from(why), places),
     }
 }
 
 // resize: the answer, and the list after the call, which is lent as long as asked.
 pub fn put_resized(
-    out: &mut [u8],
-    at: usize,
+    page: &mut Page,
     answer: Result<Maintenance, Refusal>,
     list: &[u16],
     places: usize,
-) -> usize
-    ensures { Within result out.old out.new }
+)
+    ensures { Within page.old page.new }
 {
-    let a = put_maintenance(out, at, answer, places);
-    picture::put_words(out, a, list, places)
+    put_maintenance(page, answer, places);
+    picture::put_words(page, list, places);
 }
 
-fn put_reclaimed(out: &mut [u8], at: usize, answer: Result<(), Refusal>, count: usize) -> usize
-    ensures { Within result out.old out.new }
+fn put_reclaimed(page: &mut Page, answer: Result<(), Refusal>, count: usize)
+    ensures { Within page.old page.new }
 {
     match answer {
-        Ok(()) => put_numbered(out, at, b"reclaimed", count, 64),
-        Err(why) => put_refused(out, at, u8::from(why), 64),
+        Ok(()) => put_numbered(page, b"reclaimed", count, 64),
+        Err(why) => put_refused(page, u8::from(why), 64),
     }
 }
 
 // ---- Calls
 
 // reclaim: the answer, and the 64 slots.
-fn run_reclaim(out: &mut [u8], at: usize, t: State, limit: usize, pins: &[u8]) -> Ran
-    ensures { Within result.at out.old out.new }
+fn run_reclaim(page: &mut Page, t: State, limit: usize, pins: &[u8]) -> State
+    ensures { Within page.old page.new }
 {
     let batch = maintenance_reclaim::reclaim(t, limit, pins);
-    let a = put_reclaimed(out, at, batch.answer, batch.count);
-    Ran {
-        state: batch.state,
-        at: picture::put_words(out, a, &batch.slots, 64),
-    }
+    put_reclaimed(page, batch.answer, batch.count);
+    picture::put_words(page, &batch.slots, 64);
+    batch.state
 }
 
-fn run_lookup(out: &mut [u8], at: usize, t: State, key: CacheKey) -> Ran
-    ensures { Within result.at out.old out.new }
+fn run_lookup(page: &mut Page, t: State, key: CacheKey) -> State
+    ensures { Within page.old page.new }
 {
     let Outcome { state, answer } = state_lookup::lookup(t, key);
-    Ran {
-        state,
-        at: put_found(out, at, answer, b"hit"),
-    }
+    put_found(page, answer, b"hit");
+    state
 }
 
 // publish, abort, remove and detach.
-fn run_finished(out: &mut [u8], at: usize, t: State, call: Call) -> Ran
-    ensures { Within result.at out.old out.new }
+fn run_finished(page: &mut Page, t: State, call: Call) -> State
+    ensures { Within page.old page.new }
 {
+    // No enum: the codes are those of oracle/README.md's forms, a byte may be any, and the last arm takes the rest.
     let Outcome { state, answer } = match call.code {
         3 => state_tokens::publish(t, call.token),
         4 => state_tokens::abort(t, call.token),
         6 => state_remove::remove_clean(t, call.number),
         _ => state_remove::detach_clean(t, call.number),
     };
-    Ran {
-        state,
-        at: put_done(out, at, answer),
-    }
+    put_done(page, answer);
+    state
 }
 
 // The reads: the table stays.
-fn run_read(out: &mut [u8], at: usize, t: State, call: Call) -> usize
-    ensures { Within result out.old out.new }
+fn run_read(page: &mut Page, t: State, call: Call)
+    ensures { Within page.old page.new }
 {
+    // No enum: the codes are those of oracle/README.md's forms, a byte may be any, and the last arm takes the rest.
     match call.code {
-        11 => put_done(out, at, t.validate(call.token)),
-        12 => put_found(
-            out,
-            at,
-            state_search::peek_clean(t, call.token.key),
-            b"found",
-        ),
-        13 => put_entry(out, at, call.number, t.clean_entry(call.number)),
-        14 => put_found(out, at, t.oldest_clean(), b"found"),
-        _ => put_found(out, at, t.cold_candidate(call.number), b"found"),
+        11 => put_done(page, t.validate(call.token)),
+        12 => put_found(page, state_search::peek_clean(t, call.token.key), b"found"),
+        13 => put_entry(page, call.number, t.clean_entry(call.number)),
+        14 => put_found(page, t.oldest_clean(), b"found"),
+        _ => put_found(page, t.cold_candidate(call.number), b"found"),
     }
 }
 
-// The calls that no gate stands before: all but access and resize. An unknown code is taken for detach's.
-pub fn run(out: &mut [u8], at: usize, t: State, call: Call, pins: &[u8]) -> Ran
-    ensures { Within result.at out.old out.new }
+// The calls that no gate stands before: all but access and resize.
+pub fn run(page: &mut Page, t: State, call: Call, pins: &[u8]) -> State
+    ensures { Within page.old page.new }
 {
+    // No enum: the codes are those of oracle/README.md's forms, a byte may be any, and the last arm takes the rest.
     match call.code {
-        5 => run_lookup(out, at, t, call.token.key),
-        9 => run_reclaim(out, at, t, call.number, pins),
-        11..=u8::MAX => Ran {
-            state: t,
-            at: run_read(out, at, t, call),
-        },
-        _ => run_finished(out, at, t, call),
+        5 => run_lookup(page, t, call.token.key),
+        9 => run_reclaim(page, t, call.number, pins),
+        11..=u8::MAX => {
+            run_read(page, t, call);
+            t
+        }
+        _ => run_finished(page, t, call),
     }
 }
 
 // The table after the call, what stands past its lengths, and the line's end.
-pub fn put_state(out: &mut [u8], at: usize, t: &State) -> usize
-    ensures { Within result out.old out.new }
+pub fn put_state(page: &mut Page, t: &State)
+    ensures { Within page.old page.new }
 {
-    let a = picture::put_table(out, at, t);
-    let b = picture::put_past(out, a, t);
-    picture_numbers::put_text(out, b, b"\n")
+    picture::put_table(page, t);
+    picture::put_past(page, t);
+    page.put_text(b"\n");
 }
 
-// The bytes that wait from a place on, with more read behind them, at the front, where a whole case may not be among them.
-pub fn wait<R: Input + Eprint>(
-    rt: &R,
-    bytes: &mut [u8],
-    from: usize,
-    end: usize,
-) -> Result<Waiting, Failed>
+// The bytes that wait, with more read behind them, at the front, where a whole case may not be among them.
+fn wait<R: Input + Eprint>(rt: &R, bytes: &mut [u8], waiting: Waiting) -> Result<Waiting, Failed>
     ensures at_le_have { IfOk result (λ w. (w.at ≤ w.have) × (w.have ≤ length bytes.old)) }
     ensures bytes_len_unchanged { length bytes.new ≡ length bytes.old }
 {
-    let have = end.min(bytes.len());
-    let at = from.min(have);
+    let have = waiting.have.min(bytes.len());
+    let at = waiting.at.min(have);
     if LONGEST <= have - at {
         return Ok(Waiting { at, have });
     }
@@ -516,4 +469,37 @@ pub fn wait<R: Input + Eprint>(
         at: 0,
         have: to + count,
     })
+}
+
+// All cases, each by its number and the bytes that it begins: `take_case` writes its line and tells how many of the bytes it has, or that there is none. What
+// was written before the last is written out, whatever ends them.
+pub fn run_all<R: Input + Print + Eprint, F: FnMut(&mut Page, u64, &[u8]) -> Option<usize>>(
+    rt: &R,
+    bytes: &mut [u8],
+    page: &mut Page,
+    mut take_case: F,
+) -> Result<(), Failed>
+    requires callable { F.IsAlwaysCallable take_case }
+    requires keeps_list { (f : F) (p : _) (n : _) (b : _) (r : _) (q : _) (g : F) → F.step f p n b r q g → SameList p.now q.now }
+    ensures bytes_len_unchanged { length bytes.new ≡ length bytes.old }
+    ensures same_list { SameList page.old page.new }
+{
+    let mut waiting = Waiting { at: 0, have: 0 };
+    let mut number = 0;
+    // No `loop`: it needs a measure, and the input has no known end.
+    for _ in 0..u64::MAX {
+        let Ok(next) = wait(rt, bytes, waiting) else {
+            break;
+        };
+        let Some(used) = take_case(page, number, &bytes[next.at..next.have]) else {
+            break;
+        };
+        page.flush(rt, FULL)?;
+        waiting = Waiting {
+            at: next.at.saturating_add(used),
+            have: next.have,
+        };
+        number = basics::one_more(number);
+    }
+    page.flush(rt, 0)
 }

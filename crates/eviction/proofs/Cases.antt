@@ -13,7 +13,7 @@ use borrow.Author.Tests.{leb-true, leb-false, lt-leb}
 use Rattle.std.proofs.lemmas.List.{get_or-take, length-take}
 use Rattle.basics.specs.Try.{Try, ok, refuse}
 use Rattle.basics.specs.Refusals.{STOP, PINS}
-use Rattle.basics.proofs.Tests.{yes!, no!, is, and_left, and_right, met}
+use Rattle.basics.proofs.Tests.{yes!, no!, is, and_left, and_right, met, left_suc, refuse_ok}
 use Rattle.eviction.specs.declared.EvictionHeap.{EvictionHeap}
 use Rattle.eviction.specs.Entries.{at, sized}
 use Rattle.eviction.specs.Victim.{unpinned, victim_from, victim_of}
@@ -36,7 +36,7 @@ pub victim_step : (places c : ℕ) (h : EvictionHeap) (pins : List ℕ) (i : ℕ
     if unpinned pins (at h i).slot then ok (some (at h i).slot) else
     victim_from (places - (i + 1)) c h pins (i + 1))
 unfolding victim_from
-victim_step places c h pins i n l = let e : places - i ≡ suc (places - (i + 1)) = omega arith in rw (e, lt-leb h.len i l)
+victim_step places c h pins i n l = rw (left_suc places i n, lt-leb h.len i l)
 
 -- what it finds is a slot of the table
 found_below : (n c : ℕ) (h : EvictionHeap) (pins : List ℕ) (i : ℕ) {s : ℕ} → victim_from n c h pins i ≡ ok (some s) → s < c
@@ -46,7 +46,7 @@ found_below (suc n) c h pins i {s} e =
     elim (is (leb h.len i)) [
       | yes! a ↦ let f : ◌≡◌ {A = Try (Option ℕ)} (ok none) (ok (some s)) = rw a at e in let z : ◌≡◌ {A = ℕ} 0 1 = cc in absurd (omega arith)
       | no! a ↦ elim (is (leb c (at h i).slot)) [
-        | yes! b ↦ let f : ◌≡◌ {A = Try (Option ℕ)} (refuse STOP) (ok (some s)) = rw (a, b) at e in let z : ◌≡◌ {A = ℕ} 0 1 = cc in absurd (omega arith)
+        | yes! b ↦ absurd (refuse_ok {a = some s} (rw (a, b) at e))
         | no! b ↦ elim (is (unpinned pins (at h i).slot)) [
           | yes! u ↦ let f : ◌≡◌ {A = Try (Option ℕ)} (ok (some (at h i).slot)) (ok (some s)) = rw (a, b, u) at e in
               let w : (at h i).slot ≡ s = cc in omega (arith, leb-false c (at h i).slot b)

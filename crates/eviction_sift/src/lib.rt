@@ -35,7 +35,8 @@ pub fn insert(
     };
     heap.positions[slot] = end as u16;
     heap.len = end + 1;
-    sift_up(heap, capacity, end)
+    sift_up(&mut heap, capacity, end)?;
+    Ok(heap)
 }
 
 // The place of a slot, whose entry names the slot.
@@ -73,7 +74,8 @@ pub fn touch(
         last_access,
         slot: slot as u16,
     };
-    sift_down(heap, capacity, place)
+    sift_down(&mut heap, capacity, place)?;
+    Ok(heap)
 }
 
 // The last entry takes the slot's place, and moves up or down from there.
@@ -97,8 +99,9 @@ pub fn remove(mut heap: EvictionHeap, capacity: usize, slot: usize) -> Result<Ev
     heap.entries[place] = last;
     heap.positions[moved] = place as u16;
     if up_to(&heap, place) == place {
-        sift_down(heap, capacity, place)
+        sift_down(&mut heap, capacity, place)?;
     } else {
-        sift_up(heap, capacity, place)
+        sift_up(&mut heap, capacity, place)?;
     }
+    Ok(heap)
 }

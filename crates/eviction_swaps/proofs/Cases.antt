@@ -1,13 +1,14 @@
 -- SPDX-License-Identifier: Apache-2.0
 -- What the proofs of the sifts share: no entry is older than itself, and a sift one step on. Assumes nothing.
 use Rattle.std.proofs.Common.{if◌then◌else◌}
-use Prim.Native.Nat.{ℕ, suc, ◌+◌, ◌-◌, ◌≤◌, ◌<◌}
+use Prim.Native.Nat.{ℕ, ◌+◌, ◌-◌, ◌≤◌, ◌<◌}
 use mathlib.Core.Path.{◌≡◌}
 use mathlib.Core.Bool.{false}
 use native.Mathlib.Omega.{arith}
 use lib.Dec.{eqb}
 use borrow.Author.Tests.{le-ltb}
 use Rattle.basics.specs.Try.{ok, ◌>>=◌}
+use Rattle.basics.proofs.Tests.{left_suc, left_none}
 use Rattle.eviction.specs.declared.Entry.{Entry}
 use Rattle.eviction.specs.declared.EvictionHeap.{EvictionHeap}
 use Rattle.eviction.specs.Entries.{older}
@@ -20,10 +21,10 @@ older_self e = rw (le-ltb e.last_access e.last_access (omega arith), le-ltb e.sl
 -- a sift at its end, and one step on
 pub sift_end : (next : EvictionHeap → ℕ → ℕ) (i c : ℕ) (h : EvictionHeap) (p : ℕ) → 256 ≤ i → sift_from next (256 - i) c h p ≡ ok h
 unfolding sift_from
-sift_end next i c h p l = let e : 256 - i ≡ 0 = omega arith in rw e
+sift_end next i c h p l = rw (left_none 256 i l)
 
 pub sift_step : (next : EvictionHeap → ℕ → ℕ) (i c : ℕ) (h : EvictionHeap) (p : ℕ) → i < 256
     → sift_from next (256 - i) c h p
     ≡ (if eqb (next h p) p then ok h else (swapped c h p (next h p) >>= λ k. sift_from next (256 - (i + 1)) c k (next h p)))
 unfolding sift_from
-sift_step next i c h p l = let e : 256 - i ≡ suc (256 - (i + 1)) = omega arith in rw e
+sift_step next i c h p l = rw (left_suc 256 i l)

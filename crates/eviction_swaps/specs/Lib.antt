@@ -1,3 +1,2 @@
 -- SPDX-License-Identifier: Apache-2.0
-pub mod Answers
 pub mod Step

@@ -2,13 +2,12 @@
 // SPDX-License-Identifier: Apache-2.0
 // Ported from src/fs/cache/state/eviction.rs of HypeR-Proj/kernel at 53afd06a1d, changed; see NOTICE.
 
-// state/eviction.rs, the sifts: an entry of the heap moved up or down by swaps. They are parts of the heap's calls (crate eviction_sift), which meet
-// what the sifts require.
+// state/eviction.rs, the sifts: an entry of the heap moved up or down by swaps, in place. They are parts of the heap's calls (crate eviction_sift),
+// which meet what the sifts require, and drop the heap of a sift that is refused.
 #![tactic(auto)]
 
 ghost use Rattle.std.specs.Prelude.{◌≡◌, ◌+◌, ◌*◌, ◌≤◌, ◌<◌};
-ghost use Rattle.basics.specs.Answers.{answer};
-ghost use Rattle.eviction_swaps.specs.Answers.{answer_in};
+ghost use Rattle.basics.specs.Answers.{tried};
 ghost use Rattle.eviction_swaps.specs.Step.{Callable, Within, Follows};
 ghost use Rattle.eviction.specs.Sift.{swapped, sift_from, sift_up as sift_up_rule, sift_down as sift_down_rule};
 ghost use Rattle.eviction.specs.Sift.{up_to as up_rule, child_of as child_rule, down_to as down_rule};
@@ -69,7 +68,7 @@ fn down_to(heap: &EvictionHeap, p: usize) -> usize
 #[tactic(auto, using(basics::proofs::Tests::tests, std::proofs::lemmas::List::Edits::swap_is), unfolding(eviction::specs::Sift::swapped))]
 fn swap(heap: &mut EvictionHeap, capacity: usize, i: usize, j: usize) -> Result<(), Refusal>
     requires { (capacity ≤ 256) × ((i < 256) × (j < 256)) }
-    ensures swaps { answer_in result heap.new ≡ swapped capacity heap.old i j }
+    ensures swaps { tried heap.new result ≡ swapped capacity heap.old i j }
     ensures len { heap.new.len ≡ heap.old.len }
 {
     let a = usize::from(heap.entries[i].slot);
@@ -95,7 +94,7 @@ fn sift<F: Fn(&EvictionHeap, usize) -> usize>(
     requires room { (capacity ≤ 256) × (start < 256) }
     requires callable { Callable heap.old.len (F.pre step) }
     requires within { Within heap.old.len (F.post step) }
-    ensures { (rule : _) → Follows heap.old.len rule (F.post step) → answer_in result heap.new ≡ sift_from rule 256 capacity heap.old start }
+    ensures { (rule : _) → Follows heap.old.len rule (F.post step) → tried heap.new result ≡ sift_from rule 256 capacity heap.old start }
 {
     let mut p = start;
     for _ in 0..MAX_CAPACITY {
@@ -109,26 +108,16 @@ fn sift<F: Fn(&EvictionHeap, usize) -> usize>(
     Ok(())
 }
 
-pub fn sift_up(
-    mut heap: EvictionHeap,
-    capacity: usize,
-    start: usize,
-) -> Result<EvictionHeap, Refusal>
+pub fn sift_up(heap: &mut EvictionHeap, capacity: usize, start: usize) -> Result<(), Refusal>
     requires { (capacity ≤ 256) × (start < 256) }
-    ensures { answer result ≡ sift_up_rule capacity heap start }
+    ensures { tried heap.new result ≡ sift_up_rule capacity heap.old start }
 {
-    sift(&mut heap, capacity, start, up_to)?;
-    Ok(heap)
+    sift(heap, capacity, start, up_to)
 }
 
-pub fn sift_down(
-    mut heap: EvictionHeap,
-    capacity: usize,
-    start: usize,
-) -> Result<EvictionHeap, Refusal>
-    requires { (capacity ≤ 256) × ((start < 256) × (heap.len ≤ 256)) }
-    ensures { answer result ≡ sift_down_rule capacity heap start }
+pub fn sift_down(heap: &mut EvictionHeap, capacity: usize, start: usize) -> Result<(), Refusal>
+    requires { (capacity ≤ 256) × ((start < 256) × (heap.old.len ≤ 256)) }
+    ensures { tried heap.new result ≡ sift_down_rule capacity heap.old start }
 {
-    sift(&mut heap, capacity, start, down_to)?;
-    Ok(heap)
+    sift(heap, capacity, start, down_to)
 }

@@ -12,7 +12,7 @@ ghost use Rattle.gate.specs.Gate.{at_first, one_more, one_less, admits as admits
 
 use basics::Refusal;
 
-#[derive(Clone, Copy)]
+#[derive(Clone, Copy, Default)]
 pub struct Gate {
     pub pauses: u64,
     pub dirty: u64,
@@ -40,12 +40,7 @@ impl Gate {
     pub fn new() -> Gate
         ensures { result ≡ at_first }
     {
-        Gate {
-            pauses: 0,
-            dirty: 0,
-            pending: false,
-            generation: 0,
-        }
+        Gate::default()
     }
 
     // Four turns: they are the Rust's and document 02's calls, and each has a field of its own.

@@ -3,12 +3,13 @@
 -- gate admits it, and resize by the same or with table and answer of the gate. Assumes nothing.
 use native.Mathlib.Omega.{arith}
 use mathlib.Core.Path.{refl, sym, ◌∙◌}
+use mathlib.Core.Bool.{false≢true}
 use mathlib.Core.List.{List, [], ◌∷◌}
 use Prim.Native.Nat.{ℕ}
 use lib.Dec.{ltb, eqb}
 use lib.ListN.{length}
 use Rattle.basics.specs.Numbers.{MAX}
-use Rattle.basics.proofs.Tests.{yes!, no!, is, false_true}
+use Rattle.basics.proofs.Tests.{yes!, no!, is}
 use Rattle.state.specs.declared.State.{State}
 use Rattle.laws_table.specs.Table.{Valid}
 use Rattle.laws_table.proofs.TableParts.{sound_inv}
@@ -49,7 +50,7 @@ module _ (t : State) (v : Valid t) (g : Gate) (asked : ℕ) (pins list : List �
   unfolding resize_through
   through_keeps =
       elim (input_law t asked (length pins) (length list)) [
-        | out! n e q z ↦ rw e (record { valid = v; runs = runs refl (λ s. false_true (sym (z s) ∙ sound_inv t v.0)) })
+        | out! n e q z ↦ rw e (record { valid = v; runs = runs refl (λ s. false≢true (sym (z s) ∙ sound_inv t v.0)) })
         | in! e ↦ rw e steps_keep
       ]
 

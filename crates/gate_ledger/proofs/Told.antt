@@ -3,7 +3,7 @@
 use Prim.Native.Nat.{ℕ, ◌+◌, ◌^◌}
 use native.Mathlib.Omega.{arith}
 use mathlib.Core.Path.{◌≡◌, refl, sym, ap, ◌∙◌}
-use mathlib.Core.Bool.{Bool, true, false, not, ◌&&◌}
+use mathlib.Core.Bool.{Bool, true, false, not, ◌&&◌, false≢true}
 use mathlib.Core.List.{List, [], ◌∷◌}
 use lib.Dec.{ltb, leb, eqb}
 use borrow.Author.Tests.{lt-ltb, le-ltb, not-true}
@@ -15,7 +15,7 @@ use Rattle.basics.specs.Capacity.{need_capacity}
 use Rattle.basics.specs.Answers.{Fine, done}
 use Rattle.basics.specs.Members.{In, here, there}
 use Rattle.basics.specs.Counts.{bit, count}
-use Rattle.basics.proofs.Tests.{yes!, no!, is, false_true}
+use Rattle.basics.proofs.Tests.{yes!, no!, is}
 use Rattle.basics.proofs.Members.{down_in}
 use Rattle.state.specs.declared.State.{State}
 use Rattle.state.specs.Slots.{slot_at, is_loading}
@@ -92,13 +92,13 @@ unfolding loads
 loads_told t l a =
     elim (any_is (λ (h : Held). not h.clean) l.held) [
       | any q h i f ↦ elim (shows t l a h i) [
-        | as_clean c e k u ↦ absurd (false_true (sym (not-true h.clean f) ∙ c))
+        | as_clean c e k u ↦ absurd (false≢true (sym (not-true h.clean f) ∙ c))
         | as_loading c e k y p g u z n ↦ q ∙ sym (lt-ltb 0 t.loading (loading_pos t a.inv h.slot (below t l a h i) e))
       ]
       | nil q n ↦
           let none : (x : ℕ) → In x (down t.capacity) → is_loading (slot_at t x) ≡ false = λ x i. elim (is (is_loading (slot_at t x))) [
             | no! e ↦ e
-            | yes! e ↦ let (h, j, c, k) = loading_in t l a x (down_in t.capacity x i) e in absurd (false_true (sym (n h j) ∙ rw c))
+            | yes! e ↦ let (h, j, c, k) = loading_in t l a x (down_in t.capacity x i) e in absurd (false≢true (sym (n h j) ∙ rw c))
           ] in
           q ∙ sym (le-ltb 0 t.loading (omega (arith, a.inv.loading, count_none (λ (x : ℕ). is_loading (slot_at t x)) (down t.capacity) none)))
     ]

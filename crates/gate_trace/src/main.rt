@@ -4,12 +4,14 @@
 // write that fails.
 #![tactic(auto)]
 
-ghost use Rattle.std.specs.Prelude.{◌≡◌, ◌≤◌, length, IfSome};
+ghost use Rattle.std.specs.Prelude.{◌≤◌, length, IfSome};
+ghost use Rattle.picture_numbers.specs.Wrote.{SameList};
 ghost use Rattle.cases.specs.Places.{Within};
 
 use cases::Call;
 use gate::Gate;
-use picture_numbers::flush;
+use passage::Passed;
+use picture_numbers::Page;
 use state::{Outcome, State};
 use streams::Failed;
 
@@ -27,20 +29,11 @@ struct Begun {
     end: usize,
 }
 
-// What stands after a call, and the place behind the answer's text.
-#[derive(Clone, Copy)]
-struct Went {
-    guarded: Guarded,
-    at: usize,
-}
+// The bytes of cases that are there at once.
+const BLOCK: usize = 262144;
 
-// What stands after a case, what was taken of some bytes, and the place behind what was written.
-#[derive(Clone, Copy)]
-struct Taken {
-    guarded: Guarded,
-    used: usize,
-    written: usize,
-}
+// The room of a page.
+const ROOM: usize = 524288;
 
 // The bytes of a gate.
 const GATE: usize = 25;
@@ -73,8 +66,8 @@ fn begin(bytes: &[u8], guarded: Guarded) -> Begun {
     }
 }
 
-fn put_gate(out: &mut [u8], at: usize, gate: Gate) -> usize
-    ensures { Within result out.old out.new }
+fn put_gate(page: &mut Page, gate: Gate)
+    ensures { Within page.old page.new }
 {
     let numbers: [u64; 4] = [
         gate.pauses,
@@ -82,132 +75,109 @@ fn put_gate(out: &mut [u8], at: usize, gate: Gate) -> usize
         u64::from(gate.pending),
         gate.generation,
     ];
-    picture_numbers::put_numbers(out, at, &numbers)
+    page.put_numbers(&numbers);
 }
 
 // new: a refused one leaves table and gate as they were.
-fn run_new(out: &mut [u8], at: usize, guarded: Guarded, capacity: usize) -> Went
-    ensures { Within result.at out.old out.new }
+fn run_new(page: &mut Page, guarded: Guarded, capacity: usize) -> Guarded
+    ensures { Within page.old page.new }
 {
     let made = State::try_new(capacity);
     match made.answer {
-        Ok(()) => Went {
-            guarded: Guarded {
+        Ok(()) => {
+            cases::put_numbered(page, b"made", capacity, 0);
+            Guarded {
                 state: made.state,
                 gate: Gate::new(),
-            },
-            at: cases::put_numbered(out, at, b"made", capacity, 0),
-        },
-        Err(why) => Went {
-            guarded,
-            at: cases::put_refused(out, at, u8::from(why), 0),
-        },
+            }
+        }
+        Err(why) => {
+            cases::put_refused(page, u8::from(why), 0);
+            guarded
+        }
     }
 }
 
 // A pause or a dirty page begins or ends; a refusal leaves the gate as it was.
-fn run_turn(out: &mut [u8], at: usize, guarded: Guarded, code: u8) -> Went
-    ensures { Within result.at out.old out.new }
+fn run_turn(page: &mut Page, guarded: Guarded, code: u8) -> Guarded
+    ensures { Within page.old page.new }
 {
     let Guarded { state, gate } = guarded;
+    // No enum: the codes are those of oracle/README.md's forms, a byte may be any, and the last arm takes the rest.
     let turned = match code {
         16 => gate.begin_pause(),
         17 => gate.end_pause(),
         18 => gate.begin_dirty(),
         _ => gate.end_dirty(),
     };
-    match turned {
-        Ok(gate) => Went {
-            guarded: Guarded { state, gate },
-            at: cases::put_done(out, at, Ok(())),
-        },
-        Err(why) => Went {
-            guarded,
-            at: cases::put_done(out, at, Err(why)),
-        },
+    cases::put_done(page, turned.map(|_| ()));
+    Guarded {
+        state,
+        gate: turned.unwrap_or(gate),
     }
 }
 
-fn run_access(out: &mut [u8], at: usize, guarded: Guarded, call: Call, pins: &[u8]) -> Went
-    ensures { Within result.at out.old out.new }
+fn run_access(page: &mut Page, guarded: Guarded, call: Call, pins: &[u8]) -> Guarded
+    ensures { Within page.old page.new }
 {
     let Guarded { state, gate } = guarded;
     let Outcome { state, answer } = passage::access(state, gate, call.token.key, call.allow, pins);
-    Went {
-        guarded: Guarded { state, gate },
-        at: cases::put_access(out, at, answer),
-    }
+    cases::put_access(page, answer);
+    Guarded { state, gate }
 }
 
 fn run_resize(
-    out: &mut [u8],
-    at: usize,
+    page: &mut Page,
     guarded: Guarded,
     call: Call,
     pins: &[u8],
     list: &mut [u16],
-) -> Went
-    ensures { Within result.at out.old out.new }
+) -> Guarded
+    ensures { Within page.old page.new }
 {
     let places = call.list.min(list.len());
-    let passed = passage::resize(
+    let Passed {
+        outcome: Outcome { state, answer },
+        gate,
+    } = passage::resize(
         guarded.state,
         guarded.gate,
         call.number,
         pins,
         &mut list[..places],
     );
-    Went {
-        guarded: Guarded {
-            state: passed.state,
-            gate: passed.gate,
-        },
-        at: cases::put_resized(out, at, passed.answer, &list[..], places),
-    }
+    cases::put_resized(page, answer, &list[..], places);
+    Guarded { state, gate }
 }
 
-fn run(out: &mut [u8], at: usize, guarded: Guarded, call: Call, pins: &[u8]) -> Went
-    ensures { Within result.at out.old out.new }
+fn run(page: &mut Page, guarded: Guarded, call: Call, pins: &[u8]) -> Guarded
+    ensures { Within page.old page.new }
 {
+    // No enum: the codes are those of oracle/README.md's forms, a byte may be any, and the last arm takes the rest.
     match call.code {
-        1 => run_new(out, at, guarded, call.number),
-        2 => run_access(out, at, guarded, call, pins),
+        1 => run_new(page, guarded, call.number),
+        2 => run_access(page, guarded, call, pins),
         8 => {
             let mut list: [u16; 65535] = [7; 65535];
-            run_resize(out, at, guarded, call, pins, &mut list)
+            run_resize(page, guarded, call, pins, &mut list)
         }
-        16..=u8::MAX => run_turn(out, at, guarded, call.code),
-        _ => {
-            let ran = cases::run(out, at, guarded.state, call, pins);
-            Went {
-                guarded: Guarded {
-                    state: ran.state,
-                    gate: guarded.gate,
-                },
-                at: ran.at,
-            }
-        }
+        16..=u8::MAX => run_turn(page, guarded, call.code),
+        _ => Guarded {
+            state: cases::run(page, guarded.state, call, pins),
+            gate: guarded.gate,
+        },
     }
 }
 
 // The line of a case.
-fn put_case(
-    out: &mut [u8],
-    at: usize,
-    number: u64,
-    guarded: Guarded,
-    call: Call,
-    pins: &[u8],
-) -> Went
-    ensures { Within result.at out.old out.new }
+fn put_case(page: &mut Page, number: u64, guarded: Guarded, call: Call, pins: &[u8]) -> Guarded
+    ensures { Within page.old page.new }
 {
-    let a = picture_numbers::digits(out, at, number);
-    let went = run(out, a, guarded, call, pins);
-    let b = put_gate(out, went.at, went.guarded.gate);
-    Went {
-        guarded: went.guarded,
-        at: cases::put_state(out, b, &went.guarded.state),
-    }
+    page.digits(number);
+    let left = run(page, guarded, call, pins);
+    put_gate(page, left.gate);
+    cases::put_state(page, &left.state);
+    left
 }
 
 // Whether there is such a call.
@@ -215,71 +185,41 @@ fn known(code: u8) -> bool {
     matches!(code, 1..=6 | 8..=19)
 }
 
-// The case at the front of some bytes: how many it has, and the place behind its line. There is none where it is cut off, or of an unknown code or
-// first byte.
-fn take_case(
-    out: &mut [u8],
-    at: usize,
-    number: u64,
-    guarded: Guarded,
-    bytes: &[u8],
-) -> Option<Taken>
-    ensures used_in_bounds { IfSome result (λ taken. taken.used ≤ length bytes.now) }
-    ensures within { IfSome result (λ taken. Within taken.written out.old out.new) }
-    ensures out_len_unchanged { length out.new ≡ length out.old }
+// The case at the front of some bytes, and its line: how many bytes it has. There is none where it is cut off, or of an unknown code or first byte.
+fn take_case(page: &mut Page, number: u64, guarded: &mut Guarded, bytes: &[u8]) -> Option<usize>
+    ensures used_in_bounds { IfSome result (λ used. used ≤ length bytes.now) }
+    ensures within { IfSome result (λ _. Within page.old page.new) }
+    ensures same_list { SameList page.old page.new }
 {
     let call = cases::read_call(bytes, 1);
-    let begun = begin(bytes, guarded);
+    let begun = begin(bytes, *guarded);
     let from = begun.end;
     let end = cases::over(from, call.pins);
     if bytes.len() < end || end < from || 1 < cases::byte_at(bytes, 0) || !known(call.code) {
         return None;
     }
-    let pins = &bytes[from..end];
-    let went = put_case(out, at, number, begun.guarded, call, pins);
-    Some(Taken {
-        guarded: went.guarded,
-        used: end,
-        written: went.at,
-    })
+    *guarded = put_case(page, number, begun.guarded, call, &bytes[from..end]);
+    Some(end)
 }
 
-// All cases. Before the first stand the table of a refused new and the gate as at first. What was written before the last is written out, whatever ends
-// them.
-fn run_all<R: Input + Print + Eprint>(
-    rt: &R,
-    bytes: &mut [u8],
-    out: &mut [u8],
-) -> Result<(), Failed> {
+// Before the first case stand the table of a refused new and the gate as at first.
+fn run_all<R: Input + Print + Eprint>(rt: &R) -> Result<(), Failed> {
+    let mut bytes: [u8; BLOCK] = [0; BLOCK];
+    let mut out: [u8; ROOM] = [0; ROOM];
+    let mut page = Page {
+        bytes: &mut out,
+        at: 0,
+    };
     let refused = State::try_new(0);
     let mut guarded = Guarded {
         state: refused.state,
         gate: Gate::new(),
     };
-    let mut written = 0;
-    let mut number = 0;
-    let mut from = 0;
-    let mut end = 0;
-    for _ in 0..u64::MAX {
-        let Ok(waiting) = cases::wait(rt, bytes, from, end) else {
-            break;
-        };
-        let case = &bytes[waiting.at..waiting.have];
-        let Some(taken) = take_case(out, written, number, guarded, case) else {
-            break;
-        };
-        written = flush(rt, out, taken.written, cases::FULL)?;
-        guarded = taken.guarded;
-        from = waiting.at + taken.used;
-        end = waiting.have;
-        number = basics::one_more(number);
-    }
-    flush(rt, out, written, 0)?;
-    Ok(())
+    cases::run_all(rt, &mut bytes, &mut page, |page, number, case| {
+        take_case(page, number, &mut guarded, case)
+    })
 }
 
 fn main(rt: HostRuntime) {
-    let mut bytes: [u8; 262144] = [0; 262144];
-    let mut out: [u8; 524288] = [0; 524288];
-    let _ = run_all(&rt, &mut bytes, &mut out);
+    let _ = run_all(&rt);
 }

@@ -116,7 +116,8 @@ impl Index {
         Ok(self)
     }
 
-    // The first slot of the key's chain. A bucket past the heads, which an index of the right sizes does not have, gives 0.
+    // The first slot of the key's chain, as it is stored: 65535 for none. An `Option` is no plainer: the walks, which are all that ask, test the number
+    // against the capacity besides. A bucket past the heads, which an index of the right sizes does not have, gives 0.
     pub fn head(&self, key: CacheKey) -> usize
         ensures { result ≡ head_of self.now key }
     {
@@ -126,7 +127,7 @@ impl Index {
             .map_or(0, usize::from)
     }
 
-    // The slot behind one in its chain. A slot past the places gives 0.
+    // The slot behind one in its chain, stored like a head. A slot past the places gives 0.
     pub fn next_in_chain(&self, slot: usize) -> usize
         ensures { result ≡ next_of self.now slot }
     {

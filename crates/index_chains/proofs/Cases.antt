@@ -10,6 +10,7 @@ use lib.Dec.{leb, eqb}
 use Rattle.basics.specs.Try.{ok, refuse}
 use Rattle.basics.specs.Refusals.{STOP}
 use Rattle.basics.specs.Numbers.{NONE}
+use Rattle.basics.proofs.Tests.{left_suc}
 use Rattle.index.specs.declared.Index.{Index}
 use Rattle.index.specs.Chain.{next_of, room_from, unlinked, remove_from}
 
@@ -17,7 +18,7 @@ use Rattle.index.specs.Chain.{next_of, room_from, unlinked, remove_from}
 pub room_step : (steps c : ℕ) (ix : Index) (s i : ℕ) → i < steps
     → room_from (steps - i) c ix s ≡ (if eqb s NONE then ok true else if leb c s then refuse STOP else room_from (steps - (i + 1)) c ix (next_of ix s))
 unfolding room_from
-room_step steps c ix s i l = let e : steps - i ≡ suc (steps - (i + 1)) = omega arith in rw e
+room_step steps c ix s i l = rw (left_suc steps i l)
 
 pub room_end : (n c : ℕ) (ix : Index) (s : ℕ) → n ≤ 0 → room_from n c ix s ≡ (if eqb s NONE then ok false else refuse STOP)
 unfolding room_from
@@ -28,7 +29,7 @@ pub remove_step : (steps c : ℕ) (ix : Index) (b target p s i : ℕ) → i < st
     → remove_from (steps - i) c ix b target p s
     ≡ (if leb c s then refuse STOP else if eqb s target then ok (unlinked ix b p s) else remove_from (steps - (i + 1)) c ix b target s (next_of ix s))
 unfolding remove_from
-remove_step steps c ix b target p s i l = let e : steps - i ≡ suc (steps - (i + 1)) = omega arith in rw e
+remove_step steps c ix b target p s i l = rw (left_suc steps i l)
 
 pub remove_end : (n c : ℕ) (ix : Index) (b target p s : ℕ) → n ≤ 0 → remove_from n c ix b target p s ≡ refuse STOP
 unfolding remove_from

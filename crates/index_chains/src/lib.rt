@@ -18,8 +18,8 @@ use key::CacheKey;
 // The most slots of a chain.
 pub const MAX_CHAIN: usize = 64;
 
-// Whether the key's chain takes one more slot: it ends before the steps do. One walk for this and `remove` would be no plainer: they end at different
-// slots, each by a rule of its own, and only `remove` keeps the place before.
+// Whether the key's chain takes one more slot: it ends before the steps do. One walk for this, `remove` and that of state_search would be no plainer:
+// each ends at a slot of its own and by a rule of its own, a chain of 64 has another answer here, and only `remove` keeps the place before.
 #[tactic(auto, using(basics::proofs::Tests::tests, crate::proofs::Cases::room_step, crate::proofs::Cases::room_end), unfolding(index::specs::Chain::can_insert))]
 pub fn can_insert(index: &Index, capacity: usize, key: CacheKey) -> Result<bool, Refusal>
     ensures { answer result ≡ can_insert capacity index.now key }

@@ -12,7 +12,7 @@ ghost use Rattle.basics.specs.Answers.{answer};
 
 use basics::Refusal;
 
-#[derive(Clone, Copy, Debug, PartialEq, Eq)]
+#[derive(Clone, Copy, Debug, Default, PartialEq, Eq)]
 pub struct CacheKey {
     pub file: u64,
     pub kind: u8,
@@ -28,6 +28,7 @@ impl CacheKey {
     }
 
     // File is rotated before it joins the sum, which wraps at 2^64. With no buckets there is no remainder, and the sum itself is the answer.
+    // `as usize`: there is no `From` of u64, and `try_from` could fail.
     pub fn bucket(self, buckets: usize) -> usize
         ensures { result ≡ bucket_of self buckets }
     {
@@ -48,7 +49,8 @@ fn rotate_left_5(x: u64) -> u64
     (x << 5) | (x >> 59)
 }
 
-// The bucket count of a capacity, or why there is none. A predecessor of n binary digits makes 2^(n + 1) buckets, and n is 64 less its leading zeros.
+// The bucket count of a capacity, or why there is none, by leading zeros, as the project asks: a predecessor of n binary digits makes 2^(n + 1)
+// buckets, and n is 64 less its leading zeros.
 #[tactic(auto, unfolding(crate::specs::Bucket::count_for))]
 pub fn bucket_count(capacity: usize) -> Result<usize, Refusal>
     ensures { answer result ≡ count_for capacity }

@@ -4,7 +4,7 @@ use Prim.Native.Nat.{ℕ, ◌+◌}
 use native.Mathlib.Omega.{arith}
 use mathlib.Core.Path.{◌≡◌, refl, sym, ap, ◌∙◌}
 use mathlib.Core.Logic.{◌⊎◌, inl, inr}
-use mathlib.Core.Bool.{Bool, true, false}
+use mathlib.Core.Bool.{Bool, true, false, false≢true}
 use mathlib.Core.List.{List}
 use lib.Dec.{ltb, eqb}
 use lib.ListN.{length}
@@ -14,7 +14,7 @@ use Rattle.basics.specs.Answers.{Fine, done}
 use Rattle.basics.specs.Refusals.{STOP, PINS, LIST, EXHAUSTED}
 use Rattle.basics.specs.Numbers.{MAX}
 use Rattle.basics.specs.Capacity.{need_capacity}
-use Rattle.basics.proofs.Tests.{yes!, no!, is, false_true}
+use Rattle.basics.proofs.Tests.{yes!, no!, is}
 use Rattle.state.specs.declared.State.{State}
 use Rattle.state.specs.Fresh.{sound}
 use Rattle.maintenance_resize.specs.Answers.{Size, unchanged, busy_now, resized, Resizing}
@@ -53,9 +53,9 @@ tested (refuse n) = refused! n refl
 attempt_clears : (g : Gate) (a : Try Size) → clears a ≡ true → (attempted g a).pending ≡ false
 unfolding attempted clears
 attempt_clears g (ok unchanged) c = refl
-attempt_clears g (ok busy_now) c = absurd (false_true c)
+attempt_clears g (ok busy_now) c = absurd (false≢true c)
 attempt_clears g (ok (resized n)) c = refl
-attempt_clears g (refuse n) c = absurd (false_true c)
+attempt_clears g (refuse n) c = absurd (false≢true c)
 
 attempt_same : (g : Gate) (a : Try Size) → Same g (attempted g a)
 unfolding attempted
@@ -147,11 +147,11 @@ module _ (t : State) (g : Gate) (asked : ℕ) (pins list : List ℕ) where
   unfolding pass_steps attempt_rule clears
   steps_clear =
       elim (is (stops g)) [
-        | yes! s ↦ rw s (λ c. absurd (false_true c))
+        | yes! s ↦ rw s (λ c. absurd (false≢true c))
         | no! s ↦ elim (is (eqb asked t.capacity)) [
           | yes! e ↦ rw (s, e) (λ c. refl)
           | no! e ↦ elim (is (ltb 0 t.loading)) [
-            | yes! h ↦ rw (s, e, h) (λ c. absurd (false_true c))
+            | yes! h ↦ rw (s, e, h) (λ c. absurd (false≢true c))
             | no! h ↦ elim (is (eqb g.generation MAX)) [
               | yes! i ↦ rw (s, e, h, i) (λ c. refl)
               | no! i ↦ rw (s, e, h, i) (attempt_clears g (resize t asked pins list).answer)
@@ -164,7 +164,7 @@ module _ (t : State) (g : Gate) (asked : ℕ) (pins list : List ℕ) where
   unfolding resize_through clears
   done_clears =
       elim (tested tests) [
-        | refused! m e ↦ rw e (λ c. absurd (false_true c))
+        | refused! m e ↦ rw e (λ c. absurd (false≢true c))
         | passes! e ↦ rw e steps_clear
       ]
 

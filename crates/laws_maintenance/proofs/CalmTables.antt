@@ -4,10 +4,10 @@
 use Prim.Native.Nat.{ℕ, ◌<◌, ◌≤◌}
 use native.Mathlib.Omega.{arith}
 use mathlib.Core.Path.{◌≡◌, refl, sym, ap, ◌∙◌}
-use mathlib.Core.Bool.{true, false}
+use mathlib.Core.Bool.{true, false, false≢true}
 use mathlib.Core.Option.{Option, none, some}
 use Rattle.basics.specs.Try.{Try, ok}
-use Rattle.basics.proofs.Tests.{yes!, no!, is, false_true}
+use Rattle.basics.proofs.Tests.{yes!, no!, is}
 use Rattle.key.specs.declared.CacheKey.{CacheKey}
 use Rattle.state.specs.declared.State.{State}
 use Rattle.state.specs.Slots.{slot_at, is_loading, is_clean, occupied}
@@ -25,7 +25,7 @@ none_loads t v q x hx = elim (is (is_loading (slot_at t x))) [ yes! e ↦ absurd
 
 pub calm_clean : (t : State) → Inv t → t.loading ≡ 0 → (x : ℕ) → x < t.capacity → occupied (slot_at t x) ≡ true → is_clean (slot_at t x) ≡ true
 calm_clean t v q x hx o =
-    elim (is (is_clean (slot_at t x))) [ yes! e ↦ e | no! e ↦ absurd (false_true (sym (none_loads t v q x hx) ∙ occupied_loading (slot_at t x) o e)) ]
+    elim (is (is_clean (slot_at t x))) [ yes! e ↦ e | no! e ↦ absurd (false≢true (sym (none_loads t v q x hx) ∙ occupied_loading (slot_at t x) o e)) ]
 
 -- two clean slots with one key are one
 pub one_clean : {t : State} → Calm t → (x y : ℕ) → x < t.capacity → y < t.capacity → is_clean (slot_at t x) ≡ true → is_clean (slot_at t y) ≡ true → (slot_at t x).key ≡ (slot_at t y).key → x ≡ y
@@ -54,7 +54,7 @@ pub fresh_unclean : (c x : ℕ) → is_clean (slot_at (fresh c) x) ≡ false
 fresh_unclean c x = ap is_clean (fresh_slot c x)
 
 pub fresh_absent : (c : ℕ) (k : CacheKey) → Absent (fresh c) k
-fresh_absent c k x hx o e = false_true (sym (fresh_free c x) ∙ o)
+fresh_absent c k x hx o e = false≢true (sym (fresh_free c x) ∙ o)
 
 pub fresh_capacity : (c : ℕ) → (fresh c).capacity ≡ c
 unfolding fresh empty
@@ -69,4 +69,4 @@ unfolding fresh empty
 fresh_quiet c = refl
 
 pub fresh_calm : (c : ℕ) → 0 < c → c ≤ 256 → Calm (fresh c)
-fresh_calm c pos small = record { inv = fresh_inv c pos small; quiet = fresh_quiet c; distinct = λ x y hx hy a b e. absurd (false_true (sym (fresh_free c x) ∙ a)) }
+fresh_calm c pos small = record { inv = fresh_inv c pos small; quiet = fresh_quiet c; distinct = λ x y hx hy a b e. absurd (false≢true (sym (fresh_free c x) ∙ a)) }

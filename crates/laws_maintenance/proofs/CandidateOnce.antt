@@ -5,6 +5,7 @@ use Prim.Native.Nat.{ℕ, suc, ◌+◌, ◌/◌, ◌<◌, ◌≤◌, max}
 use native.Mathlib.Omega.{arith}
 use mathlib.Core.Path.{◌≡◌, refl, ◌∙◌}
 use mathlib.Core.Bool.{Bool, true, false, ◌&&◌}
+use Rattle.std.proofs.Math.Bool.{and-false}
 use mathlib.Core.List.{List}
 use lib.ListN.{length}
 use borrow.Author.Tests.{le-ltb}
@@ -42,9 +43,5 @@ module _ (t : State) (pins : List ℕ) (small : t.capacity ≤ 256) (len : lengt
   tried_once shrinking c left pos hc big =
       elim (pinned_from t pins t.capacity (65 ≤ pin_count pins) (Counted pins) (λ k n hk e w. counted_skip w (omega arith) e) counted_take t.capacity 0 (fresh c) (omega arith) (counted_fresh pins c pos hc (pins_fit pins c (omega arith) big))) [
         | some! n w e ↦ rw e
-        | none! many e ↦ rw (e, le-ltb c (t.capacity / 2) (omega (arith, power_large (max (pin_count pins) 1) (omega arith) (omega (arith, pin_most pins)))), and_no shrinking)
+        | none! many e ↦ rw (e, le-ltb c (t.capacity / 2) (omega (arith, power_large (max (pin_count pins) 1) (omega arith) (omega (arith, pin_most pins)))), and-false shrinking)
       ]
-    where
-      and_no : (b : Bool) → (b && false) ≡ false
-      and_no true = refl
-      and_no false = refl

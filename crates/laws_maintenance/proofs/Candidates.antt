@@ -4,12 +4,12 @@
 use Prim.Native.Nat.{ℕ, suc, ◌+◌, ◌<◌, ◌≤◌}
 use native.Mathlib.Omega.{arith}
 use mathlib.Core.Path.{◌≡◌, sym, ap, ◌∙◌}
-use mathlib.Core.Bool.{Bool, true, false}
+use mathlib.Core.Bool.{Bool, true, false, false≢true}
 use mathlib.Core.List.{List}
 use lib.Dec.{ltb, eqb}
 use lib.ListN.{length}
 use borrow.Author.Tests.{eqb-true, eqb-false, ltb-true, ltb-false}
-use Rattle.basics.proofs.Tests.{yes!, no!, is, false_true}
+use Rattle.basics.proofs.Tests.{yes!, no!, is}
 use Rattle.eviction.specs.Victim.{unpinned}
 use Rattle.state.specs.declared.State.{State}
 use Rattle.state.specs.Slots.{slot_at, is_clean}
@@ -42,7 +42,7 @@ pub record Pinning (t : State) (pins : List ℕ) (c k : ℕ) (n : State) : Type 
 pinning_fresh : (t : State) (pins : List ℕ) (c : ℕ) → 0 < c → c ≤ 256 → pin_count pins ≤ c → Pinning t pins c 0 (fresh c)
 pinning_fresh t pins c pos small fits =
     record {
-      drawn = record { calm = fresh_calm c pos small; origin = λ x hx e. absurd (false_true (sym (fresh_unclean c x) ∙ e)) };
+      drawn = record { calm = fresh_calm c pos small; origin = λ x hx e. absurd (false≢true (sym (fresh_unclean c x) ∙ e)) };
       capacity = fresh_capacity c;
       counted = counted_fresh pins c pos small fits;
       ahead = λ s h hs e. fresh_absent c (slot_at t s).key;
@@ -58,7 +58,7 @@ module _ {t : State} {pins : List ℕ} {c k : ℕ} {n : State} (p : Pinning t pi
         capacity = p.capacity;
         counted = counted_skip p.counted hk e;
         ahead = λ s h. p.ahead s (omega arith);
-        behind = λ s h q. elim (is (eqb s k)) [ yes! z ↦ absurd (false_true (sym q ∙ rw (eqb-true s k z) e)) | no! z ↦ p.behind s (omega (arith, eqb-false s k z)) q ];
+        behind = λ s h q. elim (is (eqb s k)) [ yes! z ↦ absurd (false≢true (sym q ∙ rw (eqb-true s k z) e)) | no! z ↦ p.behind s (omega (arith, eqb-false s k z)) q ];
         only = p.only;
       }
 
@@ -70,7 +70,7 @@ module _ {t : State} {pins : List ℕ} {c k : ℕ} {n : State} (p : Pinning t pi
         counted = counted_more p.counted hk e a.drawn.calm.inv a.drawn.calm.quiet a.one a.over.capacity;
         ahead = λ s h hs cs. a.absent s hs cs (omega arith) (p.ahead s (omega arith) hs cs);
         behind = λ s h q. elim (is (eqb s k)) [ yes! z ↦ rw (eqb-true s k z) a.present | no! z ↦ over_present a.over (p.behind s (omega (arith, eqb-false s k z)) q) ];
-        only = λ s hs cs q. a.absent s hs cs (λ z. false_true (sym e ∙ ap (unpinned pins) (sym z) ∙ q)) (p.only s hs cs q);
+        only = λ s hs cs q. a.absent s hs cs (λ z. false≢true (sym e ∙ ap (unpinned pins) (sym z) ∙ q)) (p.only s hs cs q);
       }
 
 module _ (t : State) (w : Calm t) (pins : List ℕ) (len : length pins ≡ t.capacity) (on : OnClean t pins) (c : ℕ) where

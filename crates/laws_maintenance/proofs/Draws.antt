@@ -3,14 +3,14 @@
 use Prim.Native.Nat.{ℕ, ◌+◌, ◌<◌, ◌≤◌}
 use native.Mathlib.Omega.{arith}
 use mathlib.Core.Path.{◌≡◌, refl, sym, ◌∙◌}
-use mathlib.Core.Bool.{true, false}
+use mathlib.Core.Bool.{true, false, false≢true}
 use mathlib.Core.Option.{Option, none, some}
 use lib.Dec.{eqb}
 use lib.ListN.{length}
 use lib.Seq.{get_or-set_same, get_or-set_other}
 use borrow.Author.Tests.{eqb-true, eqb-false}
 use Rattle.basics.specs.Try.{Try, ok}
-use Rattle.basics.proofs.Tests.{yes!, no!, is, false_true}
+use Rattle.basics.proofs.Tests.{yes!, no!, is}
 use Rattle.key.specs.declared.CacheKey.{CacheKey}
 use Rattle.index.specs.Chain.{CHAIN}
 use Rattle.state.specs.declared.Slot.{Slot}
@@ -99,7 +99,7 @@ module _ (o : State) (w : Calm o) (n : State) (d : Drawn o n) (s : ℕ) (hs : s 
         record {
           one = p.clean;
           drawn = record { calm = record { inv = p.inv; quiet = p.loading ∙ d.calm.quiet; distinct = one_key }; origin = from };
-          over = record { capacity = p.capacity; kept = λ y hy e. at_old y (λ q. false_true (sym free ∙ clean_occupied (slot_at n x) (rw q at e))) };
+          over = record { capacity = p.capacity; kept = λ y hy e. at_old y (λ q. false≢true (sym free ∙ clean_occupied (slot_at n x) (rw q at e))) };
           present = record { slot = x; low = omega (arith, p.capacity, p.low); clean = rw at_new; key = rw at_new };
           absent = λ q hq cq ne h. by_slot (λ y a. occupied a ≡ true → a.key ≡ (slot_at o q).key → ⊥) (λ i e. ne (one_clean w q s hq hs cq cs (sym e))) h;
         }

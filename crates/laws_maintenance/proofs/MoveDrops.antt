@@ -4,14 +4,14 @@
 use Prim.Native.Nat.{ℕ, zero, suc, ◌-◌, ◌<◌, ◌≤◌}
 use native.Mathlib.Omega.{arith}
 use mathlib.Core.Path.{◌≡◌, refl, sym, ap, ◌∙◌}
-use mathlib.Core.Bool.{true}
+use mathlib.Core.Bool.{true, false≢true}
 use mathlib.Core.Logic.{inl, inr}
 use mathlib.Core.List.{List}
 use mathlib.Core.Option.{some}
 use lib.Dec.{leb}
 use borrow.Author.Tests.{leb-true, leb-false, lt-ltb}
 use Rattle.basics.specs.Try.{ok}
-use Rattle.basics.proofs.Tests.{yes!, no!, is, false_true, ok_same, some_same}
+use Rattle.basics.proofs.Tests.{yes!, no!, is, ok_same, some_same}
 use Rattle.eviction.specs.Entries.{at}
 use Rattle.state.specs.declared.Slot.{Slot}
 use Rattle.state.specs.declared.State.{State}
@@ -68,7 +68,7 @@ drop_one {t} {pins} {m = m} tv r many u d =
     let fate : Fate t pins 0 (moving_of u m.new m.list) x = elim (g.fates x ht ct) [
       | waits! a b q ↦ gone! (out_unclean v d) q (rw same at (r.apart x ht c)) (dropped! (omega (arith, both_fit t m.old m.new tv g.old g.new r.apart)) oldest)
       | went! p q ↦ went! p q
-      | gone! a b q y ↦ absurd (false_true (sym a ∙ c))
+      | gone! a b q y ↦ absurd (false≢true (sym a ∙ c))
     ] in
     record {
       going = turned 0 x u m.list g (less_out g.old d) (out_other v d) (out_was v d) refl (λ s ne. refl) (λ s ne h. h) ct fate;

@@ -4,7 +4,7 @@ use Prim.Native.Nat.{ℕ, ◌+◌, ◌<◌}
 use native.Mathlib.Omega.{arith}
 use mathlib.Core.Path.{◌≡◌, refl, sym, ap, ◌∙◌}
 use mathlib.Core.Logic.{inl, inr}
-use mathlib.Core.Bool.{true, false}
+use mathlib.Core.Bool.{true, false, false≢true}
 use mathlib.Core.List.{List}
 use lib.Dec.{eqb}
 use lib.ListN.{set, length-set}
@@ -12,7 +12,7 @@ use lib.Seq.{get_or-set_same, get_or-set_other}
 use borrow.Author.Tests.{eqb-true, eqb-false}
 use Rattle.basics.specs.Numbers.{NONE}
 use Rattle.basics.specs.Lists.{each_slot}
-use Rattle.basics.proofs.Tests.{yes!, no!, is, false_true}
+use Rattle.basics.proofs.Tests.{yes!, no!, is}
 use Rattle.state.specs.declared.State.{State}
 use Rattle.state.specs.Slots.{slot_at, vacant_slot, is_clean}
 use Rattle.maintenance_resize.specs.Move.{Moving, moving_of, move_or_remove, move_rest}
@@ -44,7 +44,7 @@ module _ {t : State} {pins : List ℕ} {n : State} {k : ℕ} {m : Moving} (f : E
           size = g.size;
           plain = g.plain;
           fates = λ s hs cs. elim (g.fates s hs cs) [
-            | waits! x y z ↦ waits! (elim (is (eqb s k)) [ yes! e ↦ absurd (false_true (sym c ∙ ap (λ (j : ℕ). is_clean (slot_at m.old j)) (sym (eqb-true s k e)) ∙ ap is_clean y ∙ cs)) | no! e ↦ omega (arith, eqb-false s k e) ]) y z
+            | waits! x y z ↦ waits! (elim (is (eqb s k)) [ yes! e ↦ absurd (false≢true (sym c ∙ ap (λ (j : ℕ). is_clean (slot_at m.old j)) (sym (eqb-true s k e)) ∙ ap is_clean y ∙ cs)) | no! e ↦ omega (arith, eqb-false s k e) ]) y z
             | went! p q ↦ went! p q
             | gone! x y z why ↦ gone! x y z why
           ];
@@ -71,7 +71,7 @@ module _ {t : State} {pins : List ℕ} {n : State} {k : ℕ} {m : Moving} (f : E
       let fate : Fate t pins (k + 1) (moving_of u m.new m.list) k = elim (g.fates k hk ct) [
         | waits! x y z ↦ gone! out z a (elim (f.settled k hk c) [ inl p ↦ absurd (not_present a p) | inr b ↦ choked! b ])
         | went! p q ↦ absurd (not_present a p)
-        | gone! x y z why ↦ absurd (false_true (sym x ∙ c))
+        | gone! x y z why ↦ absurd (false≢true (sym x ∙ c))
       ] in
       record {
         going = turned (k + 1) k u m.list g (less_out g.old d) (out_other v d) (out_was v d) refl (λ s ne. refl) (λ s ne h. omega arith) ct fate;

@@ -4,13 +4,13 @@ use Prim.Native.Nat.{ℕ, ◌<◌, ◌≤◌}
 use native.Mathlib.Omega.{arith}
 use mathlib.Core.Path.{◌≡◌, refl, sym, ap, ◌∙◌}
 use mathlib.Core.Logic.{◌⊎◌, inl, inr}
-use mathlib.Core.Bool.{true, false}
+use mathlib.Core.Bool.{true, false, false≢true}
 use mathlib.Core.List.{List}
 use lib.Dec.{eqb}
 use lib.ListN.{length, get_or}
 use borrow.Author.Tests.{eqb-true, eqb-false}
 use Rattle.basics.specs.Numbers.{NONE}
-use Rattle.basics.proofs.Tests.{yes!, no!, is, false_true}
+use Rattle.basics.proofs.Tests.{yes!, no!, is}
 use Rattle.eviction.specs.Victim.{unpinned}
 use Rattle.state.specs.declared.State.{State}
 use Rattle.state.specs.Slots.{slot_at, is_clean}
@@ -67,7 +67,7 @@ turned {t} {m = m} k' x o l g lo slots clean size list waits cx fate =
       new = g.new;
       over = g.over;
       size = size ∙ g.size;
-      plain = λ s c. list s (λ e. false_true (sym c ∙ ap (λ (y : ℕ). is_clean (slot_at t y)) e ∙ cx)) ∙ g.plain s c;
+      plain = λ s c. list s (λ e. false≢true (sym c ∙ ap (λ (y : ℕ). is_clean (slot_at t y)) e ∙ cx)) ∙ g.plain s c;
       fates = λ s hs c. elim (is (eqb s x)) [
         | yes! e ↦ rw (eqb-true s x e) fate
         | no! e ↦

@@ -5,7 +5,7 @@ use Prim.Native.Nat.{ℕ, ◌+◌, ◌-◌, ◌<◌, ◌≤◌}
 use native.Mathlib.Omega.{arith}
 use mathlib.Core.Path.{◌≡◌, refl, sym, ap, ◌∙◌, subst}
 use mathlib.Core.Logic.{◌⊎◌, inl, inr}
-use mathlib.Core.Bool.{true}
+use mathlib.Core.Bool.{true, false≢true}
 use mathlib.Core.List.{List}
 use lib.Dec.{ltb, eqb}
 use lib.ListN.{set, length-set, replicate, length-replicate}
@@ -13,7 +13,7 @@ use lib.Seq.{get_or-set_same, get_or-set_other}
 use borrow.Author.Tests.{eqb-true, eqb-false, ltb-true, ltb-false}
 use Rattle.basics.specs.Numbers.{NONE}
 use Rattle.basics.specs.Lists.{each_slot}
-use Rattle.basics.proofs.Tests.{yes!, no!, is, false_true}
+use Rattle.basics.proofs.Tests.{yes!, no!, is}
 use Rattle.eviction.specs.Entries.{at, pos_of}
 use Rattle.state.specs.declared.Slot.{Slot}
 use Rattle.state.specs.declared.State.{State}
@@ -61,7 +61,7 @@ module _ {t : State} {pins : List ℕ} {n : State} {k : ℕ} {m : Moving} (r : L
         going = turned 0 k u (set m.list k p.slot) g (less_out g.old d) (out_other v d) (out_was v d) (length-set m.list k p.slot) (λ s ne. get_or-set_other m.list k s p.slot NONE ne) (λ s ne h. h) (rw same at c)
             (went! there (get_or-set_same m.list k p.slot NONE (omega (arith, g.size))));
         apart = λ s hs e. elim (is (eqb s k)) [
-          | yes! q ↦ absurd (false_true (sym (out_unclean v d) ∙ (rw (eqb-true s k q) at e)))
+          | yes! q ↦ absurd (false≢true (sym (out_unclean v d) ∙ (rw (eqb-true s k q) at e)))
           | no! q ↦ let z = out_clean v d s e in rw z (r.apart s (omega (arith, eqb-false s k q)) (rw z at e))
         ];
         only = r.only;
@@ -71,7 +71,7 @@ leave_step : (t : State) (pins : List ℕ) (n : State) (k : ℕ) (m : Moving) �
 unfolding leave_pinned leave_to
 leave_step t pins n k m hk r =
     elim (is (is_clean (slot_at m.old k))) [
-      | no! e ↦ rw e (record { value = m; gives = refl; good = stays_next r hk (λ c. absurd (false_true (sym e ∙ c))) })
+      | no! e ↦ rw e (record { value = m; gives = refl; good = stays_next r hk (λ c. absurd (false≢true (sym e ∙ c))) })
       | yes! e ↦ rw e (elim (peeked m.new r.going.new.calm (slot_at m.old k).key) [
         | absent! a q ↦ rw q (record { value = m; gives = refl; good = stays_next r hk (λ c. a) })
         | there! p q ↦

@@ -4,13 +4,13 @@ use Prim.Native.Nat.{ℕ, ◌+◌, ◌<◌, ◌≤◌}
 use native.Mathlib.Omega.{arith}
 use mathlib.Core.Path.{◌≡◌, refl, sym, ap, ◌∙◌}
 use mathlib.Core.Logic.{◌⊎◌, inl, inr}
-use mathlib.Core.Bool.{true}
+use mathlib.Core.Bool.{true, false≢true}
 use mathlib.Core.List.{List}
 use lib.Dec.{eqb}
 use borrow.Author.Tests.{eqb-true, eqb-false}
 use Rattle.basics.specs.Lists.{each_slot}
 use Rattle.basics.specs.Counts.{bit}
-use Rattle.basics.proofs.Tests.{yes!, no!, is, false_true}
+use Rattle.basics.proofs.Tests.{yes!, no!, is}
 use Rattle.key.specs.declared.CacheKey.{CacheKey}
 use Rattle.state.specs.declared.State.{State}
 use Rattle.state.specs.Slots.{slot_at, is_clean}
@@ -81,7 +81,7 @@ module _ {t : State} {pins : List ℕ} {n : State} {k : ℕ} {m : Moving} (f : F
             fates = λ s hs cs. elim (g.fates s hs cs) [
               | waits! x y z ↦ waits! x y z
               | went! p q ↦ went! (over_present a.over p) q
-              | gone! x y z why ↦ gone! x y (a.absent s hs cs (λ e. false_true (sym x ∙ ap (λ (j : ℕ). is_clean (slot_at m.old j)) e ∙ c)) z) (reason_stays m.old u m.list a.over.capacity (full (slot_at t s).key) (left a) why)
+              | gone! x y z why ↦ gone! x y (a.absent s hs cs (λ e. false≢true (sym x ∙ ap (λ (j : ℕ). is_clean (slot_at m.old j)) e ∙ c)) z) (reason_stays m.old u m.list a.over.capacity (full (slot_at t s).key) (left a) why)
             ];
           };
           absent = λ s hs h cs. a.absent s h (rw (g.old.part s cs) at cs) (omega arith) (f.absent s (omega arith) h cs);
@@ -96,7 +96,7 @@ fill_step : (t : State) → Calm t → (pins : List ℕ) (n : State) (k : ℕ) (
 unfolding restore_rest restore_unless keep_new
 fill_step t w pins n k m hk f =
     elim (is (is_clean (slot_at m.old k))) [
-      | no! e ↦ rw e (record { value = m; gives = refl; good = fill_next f hk (λ c. absurd (false_true (sym e ∙ c))) })
+      | no! e ↦ rw e (record { value = m; gives = refl; good = fill_next f hk (λ c. absurd (false≢true (sym e ∙ c))) })
       | yes! e ↦
           let d = f.going.new in
           let same : slot_at m.old k ≡ slot_at t k = f.going.old.part k e in

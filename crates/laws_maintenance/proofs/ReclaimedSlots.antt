@@ -3,12 +3,12 @@
 use Prim.Native.Nat.{ℕ, ◌-◌, ◌<◌}
 use native.Mathlib.Omega.{arith}
 use mathlib.Core.Path.{◌≡◌, refl, sym, ap, ◌∙◌}
-use mathlib.Core.Bool.{true}
+use mathlib.Core.Bool.{true, false≢true}
 use mathlib.Core.List.{List, [], ◌∷◌, ◌++◌}
 use lib.Dec.{eqb}
 use borrow.Author.Tests.{eqb-true, eqb-false}
 use Rattle.basics.specs.Members.{In}
-use Rattle.basics.proofs.Tests.{yes!, no!, is, false_true}
+use Rattle.basics.proofs.Tests.{yes!, no!, is}
 use Rattle.basics.proofs.Members.{in_none}
 use Rattle.eviction.specs.Victim.{unpinned}
 use Rattle.state.specs.declared.State.{State}
@@ -25,7 +25,7 @@ use Rattle.laws_maintenance.proofs.SlotLeaves.{out_here, out_other}
 reclaimed_more : {t u w : State} {pins xs : List ℕ} (x : ℕ) → Reclaimed t pins u xs → is_clean (slot_at u x) ≡ true → unpinned pins x ≡ true
     → Step u w x vacant_slot u.next_access_sequence u.next_load_generation (u.clean - 1) u.loading → Reclaimed t pins w (xs ++ (x ∷ []))
 reclaimed_more {t} {u} {w} {pins} {xs} x r c f p =
-    let new : In x xs → ⊥ = λ m. false_true (ap is_clean (sym (r.out x m)) ∙ c) in
+    let new : In x xs → ⊥ = λ m. false≢true (ap is_clean (sym (r.out x m)) ∙ c) in
     let ends : (P : ℕ → Type 0) → ((s : ℕ) → In s xs → P s) → P x → (s : ℕ) → In s (xs ++ (x ∷ [])) → P s = λ P a b s m. end_case xs x m (a s) (λ e. rw e b) in
     record {
       inv = p.inv;

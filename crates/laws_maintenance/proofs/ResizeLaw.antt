@@ -4,7 +4,7 @@ use Prim.Native.Nat.{ℕ, ◌<◌, ◌≤◌, ◌^◌}
 use native.Mathlib.Omega.{arith}
 use mathlib.Core.Path.{◌≡◌, refl, sym, ◌∙◌}
 use mathlib.Core.Logic.{inl, inr}
-use mathlib.Core.Bool.{true, false, ◌&&◌}
+use mathlib.Core.Bool.{true, false, ◌&&◌, false≢true}
 use mathlib.Core.List.{List}
 use lib.Dec.{ltb, leb, eqb}
 use lib.ListN.{length, get_or}
@@ -13,7 +13,7 @@ use Rattle.basics.specs.Try.{Try, ◌>>=◌}
 use Rattle.basics.specs.Refusals.{INVALID, ALLOCATION, PINS, LIST, UNCLEAN}
 use Rattle.basics.specs.Capacity.{need_capacity}
 use Rattle.basics.specs.Numbers.{NONE}
-use Rattle.basics.proofs.Tests.{yes!, no!, is, false_true, and_left, and_right}
+use Rattle.basics.proofs.Tests.{yes!, no!, is, and_left, and_right}
 use Rattle.eviction.specs.Victim.{unpinned}
 use Rattle.state.specs.declared.State.{State}
 use Rattle.state.specs.Slots.{slot_at, is_clean}
@@ -95,7 +95,7 @@ module _ (t : State) (v : Inv t) (dis : Distinct t.slots t.capacity) (asked : �
 module _ (t : State) (pins : List ℕ) (r : Resizing) (m : Remade t pins r) (s : ℕ) (hs : s < t.capacity) (c : is_clean (slot_at t s) ≡ true) where
   -- "pinned keys stay"
   pub pinned_stay : unpinned pins s ≡ false → get_or r.list s NONE < r.table.capacity
-  pinned_stay p = elim (m.places s hs c) [ kept! a b d e ↦ a | lost! a b d e y ↦ absurd (false_true (sym p ∙ d)) ]
+  pinned_stay p = elim (m.places s hs c) [ kept! a b d e ↦ a | lost! a b d e y ↦ absurd (false≢true (sym p ∙ d)) ]
 
   -- "growing loses none"
   pub growing_keeps : t.capacity < r.table.capacity → get_or r.list s NONE < r.table.capacity

@@ -3,9 +3,8 @@
 use Prim.Native.Nat.{ℕ}
 use native.Mathlib.Omega.{arith}
 use mathlib.Core.Path.{◌≡◌, refl, sym, ap, ◌∙◌}
-use mathlib.Core.Bool.{true, false}
+use mathlib.Core.Bool.{true, false, false≢true}
 use lib.Seq.{get_or-set_same, get_or-set_other}
-use Rattle.basics.proofs.Tests.{false_true}
 use Rattle.state.specs.declared.State.{State}
 use Rattle.state.specs.Slots.{slot_at, vacant_slot, is_clean}
 use Rattle.laws_table.specs.Table.{Inv, Step}
@@ -22,7 +21,7 @@ module _ {o u : State} {x nu ng nc nl : ℕ} (v : Inv o) (p : Step o u x vacant_
 
   -- what is clean after was clean before
   pub out_clean : (s : ℕ) → is_clean (slot_at u s) ≡ true → slot_at u s ≡ slot_at o s
-  out_clean s e = out_other s (λ q. false_true (sym out_unclean ∙ (rw q at e)))
+  out_clean s e = out_other s (λ q. false≢true (sym out_unclean ∙ (rw q at e)))
 
   pub out_was : (s : ℕ) → is_clean (slot_at u s) ≡ true → is_clean (slot_at o s) ≡ true
   out_was s e = ap is_clean (sym (out_clean s e)) ∙ e

@@ -3,7 +3,7 @@
 use Prim.Native.Nat.{ℕ, ◌+◌, ◌≤◌, ◌<◌}
 use native.Mathlib.Omega.{arith}
 use mathlib.Core.Path.{◌≡◌, refl, sym, ◌∙◌, subst}
-use mathlib.Core.Bool.{Bool, true}
+use mathlib.Core.Bool.{Bool, true, false≢true}
 use mathlib.Core.List.{List}
 use lib.Dec.{ltb, leb}
 use lib.ListN.{length, set}
@@ -12,7 +12,7 @@ use Rattle.basics.specs.Try.{Try, ok, refuse}
 use Rattle.basics.specs.Lists.{some?}
 use Rattle.basics.specs.Numbers.{MAX}
 use Rattle.basics.specs.Refusals.{SLOT, STALE, EXHAUSTED, UNCLEAN, UNGIVEN}
-use Rattle.basics.proofs.Tests.{is, yes!, no!, false_true}
+use Rattle.basics.proofs.Tests.{is, yes!, no! }
 use Rattle.key.specs.declared.CacheKey.{CacheKey}
 use Rattle.eviction.specs.Entries.{at}
 use Rattle.eviction.specs.Victim.{unpinned}
@@ -94,13 +94,13 @@ module _ (n : ℕ) (t : State) (pins : List ℕ) (g : InOrder t pins) (k : Count
           | pinned! ea room hv f e ↦ rw e (record { order = recounted g.valid refl refl; counted = later (omega arith) (omega arith); answer = refl })
           | takes! ea room hv ho u e p ↦
               rw e (record {
-                order = slot_anew t u pins load g (valid_load t g.valid key (t.next_load_generation + 1) a p) p (λ q. absurd (false_true (sym (vacant_neither (slot_at t (top_of t.index)) ho).1 ∙ g.clean (top_of t.index) q)));
+                order = slot_anew t u pins load g (valid_load t g.valid key (t.next_load_generation + 1) a p) p (λ q. absurd (false≢true (sym (vacant_neither (slot_at t (top_of t.index)) ho).1 ∙ g.clean (top_of t.index) q)));
                 counted = later (omega (arith, p.uses)) (omega (arith, p.generations));
                 answer = refl;
               })
           | evicts! ea room hv j hp hj f h ec u e p ↦
               rw e (record {
-                order = slot_anew t u pins load g (valid_load t g.valid key (t.next_load_generation + 1) a p) p (λ q. absurd (false_true (sym q ∙ sym (lent_same (at t.eviction j).slot p.low) ∙ f)));
+                order = slot_anew t u pins load g (valid_load t g.valid key (t.next_load_generation + 1) a p) p (λ q. absurd (false≢true (sym q ∙ sym (lent_same (at t.eviction j).slot p.low) ∙ f)));
                 counted = later (omega (arith, p.uses)) (omega (arith, p.generations));
                 answer = refl;
               })
@@ -136,7 +136,7 @@ module _ (n : ℕ) (t : State) (pins : List ℕ) (g : InOrder t pins) (k : Count
                   size = g.size;
                   bit = g.bit;
                   low = λ x q. omega (arith, g.low x q, r.capacity);
-                  clean = λ x q. rw (r.stays x (λ m. false_true (sym q ∙ sym (lent_same x (g.low x q)) ∙ r.free x m))) (g.clean x q);
+                  clean = λ x q. rw (r.stays x (λ m. false≢true (sym q ∙ sym (lent_same x (g.low x q)) ∙ r.free x m))) (g.clean x q);
                 };
                 counted = later (omega (arith, r.uses)) (omega (arith, r.generations));
                 answer = refl;
@@ -170,7 +170,7 @@ module _ (n : ℕ) (t : State) (pins : List ℕ) (g : InOrder t pins) (k : Count
             let (u, z, p) = abort_step t g.valid.0 token e in
             let waits = loading_not_clean (slot_at t token.slot) (outstanding_loads t token e).loading in
             rw z (record {
-              order = slot_anew t u pins vacant_slot g (valid_vacant t g.valid p) p (λ q. absurd (false_true (sym waits ∙ g.clean token.slot q)));
+              order = slot_anew t u pins vacant_slot g (valid_vacant t g.valid p) p (λ q. absurd (false≢true (sym waits ∙ g.clean token.slot q)));
               counted = later (omega (arith, p.uses)) (omega (arith, p.generations));
               answer = refl;
             })
@@ -201,7 +201,7 @@ module _ (n : ℕ) (t : State) (pins : List ℕ) (g : InOrder t pins) (k : Count
         | unclean! h q e ↦ rw e (refused 6 UNCLEAN refl)
         | left! q u e p ↦
             rw e (record {
-              order = slot_anew t u (set pins x 0) vacant_slot (pin_set t pins g x 0 p.low (omega arith) q) (valid_vacant t g.valid p) p (λ z. absurd (false_true (sym z ∙ pin_off t pins g x p.low)));
+              order = slot_anew t u (set pins x 0) vacant_slot (pin_set t pins g x 0 p.low (omega arith) q) (valid_vacant t g.valid p) p (λ z. absurd (false≢true (sym z ∙ pin_off t pins g x p.low)));
               counted = later (omega (arith, p.uses)) (omega (arith, p.generations));
               answer = refl;
             })

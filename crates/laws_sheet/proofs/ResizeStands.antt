@@ -3,7 +3,7 @@
 use Prim.Native.Nat.{ℕ, ◌+◌, ◌≤◌, ◌<◌, ◌^◌}
 use native.Mathlib.Omega.{arith}
 use mathlib.Core.Path.{◌≡◌, refl, sym, ◌∙◌}
-use mathlib.Core.Bool.{true, false, ◌&&◌}
+use mathlib.Core.Bool.{true, false, ◌&&◌, false≢true}
 use mathlib.Core.List.{List}
 use lib.Dec.{eqb, ltb, leb}
 use lib.ListN.{length, replicate}
@@ -12,7 +12,7 @@ use Rattle.basics.specs.Try.{Try, ok, refuse, ◌>>=◌}
 use Rattle.basics.specs.Lists.{some?}
 use Rattle.basics.specs.Numbers.{NONE}
 use Rattle.basics.specs.Capacity.{need_capacity}
-use Rattle.basics.proofs.Tests.{is, yes!, no!, false_true, and_left}
+use Rattle.basics.proofs.Tests.{is, yes!, no!, and_left}
 use Rattle.basics.proofs.Capacities.{capacity_allowed}
 use Rattle.eviction.specs.Victim.{unpinned}
 use Rattle.state.specs.declared.State.{State}
@@ -123,7 +123,7 @@ module _ (t : State) (pins : List ℕ) (g : InOrder t pins) (lent : List ℕ) (l
               moved_leaves r.table r.list r.answer r.table.capacity m.answer
               (pins_moved_lem (length r.list) r.table pins r.list 0 no_pins o g.bit (λ x a b z. elim (m.places x (g.low x z) (g.clean x z)) [
                 | kept! low clean key last ↦ (low, clean)
-                | lost! a b free d why ↦ absurd (false_true (sym z ∙ sym (lent_same x (g.low x z)) ∙ free))
+                | lost! a b free d why ↦ absurd (false≢true (sym z ∙ sym (lent_same x (g.low x z)) ∙ free))
               ]))
               (later n t pins g k (omega (arith, m.uses)) (omega (arith, m.generations)))
         ]

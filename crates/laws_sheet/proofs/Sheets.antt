@@ -4,7 +4,7 @@ use Rattle.std.proofs.Common.{if◌then◌else◌}
 use Prim.Native.Nat.{ℕ, zero, suc, ◌+◌, ◌-◌, ◌*◌, ◌≤◌, ◌<◌}
 use native.Mathlib.Omega.{arith}
 use mathlib.Core.Path.{◌≡◌, refl, sym, ◌∙◌, subst}
-use mathlib.Core.Bool.{Bool, true, false}
+use mathlib.Core.Bool.{Bool, true, false, false≢true}
 use mathlib.Core.List.{List, [], ◌∷◌}
 use mathlib.Core.Logic.{◌⊎◌, inl, inr}
 use lib.Dec.{eqb}
@@ -13,7 +13,7 @@ use borrow.Author.Tests.{eqb-true, eqb-false, lt-leb, leb-true}
 use Rattle.basics.specs.Lists.{some?}
 use Rattle.basics.specs.Numbers.{MAX}
 use Rattle.basics.specs.Refusals.{PINS, LIST, EXHAUSTED, UNCLEAN, STOP}
-use Rattle.basics.proofs.Tests.{is, yes!, no!, false_true}
+use Rattle.basics.proofs.Tests.{is, yes!, no! }
 use Rattle.state.specs.Fresh.{empty, no_table}
 use Rattle.sheet_lines.specs.declared.Said.{Said}
 use Rattle.sheet_lines.specs.Record.{byte_at}
@@ -78,20 +78,20 @@ Row spent code row =
 
 spent_row : (spent : Bool) (code : ℕ) → Row spent code (if spent then EXHAUSTED ∷ [] else [])
 unfolding some?
-spent_row true code = (refl, refl, refl, λ e. absurd (false_true e), λ e. absurd (false_true (sym e)))
-spent_row false code = (refl, refl, refl, λ e. absurd (false_true e), λ e. refl)
+spent_row true code = (refl, refl, refl, λ e. absurd (false≢true e), λ e. absurd (false≢true (sym e)))
+spent_row false code = (refl, refl, refl, λ e. absurd (false≢true e), λ e. refl)
 
 row : (spent : Bool) (code : ℕ) → Row spent code (refusals spent code)
 unfolding some?
 row spent code =
     elim (is (eqb code 1)) [
-      | yes! e ↦ rw (eqb-true code 1 e) (refl, refl, refl, λ q. absurd (false_true q), λ q. refl)
+      | yes! e ↦ rw (eqb-true code 1 e) (refl, refl, refl, λ q. absurd (false≢true q), λ q. refl)
       | no! e1 ↦ elim (is (eqb code 2)) [
         | yes! e ↦ rw (eqb-true code 2 e) (spent_row spent 2)
         | no! e2 ↦ elim (is (eqb code 3)) [
-          | yes! e ↦ rw (eqb-true code 3 e) (refl, refl, refl, λ q. absurd (false_true q), λ q. refl)
+          | yes! e ↦ rw (eqb-true code 3 e) (refl, refl, refl, λ q. absurd (false≢true q), λ q. refl)
           | no! e3 ↦ elim (is (eqb code 4)) [
-            | yes! e ↦ rw (eqb-true code 4 e) (refl, refl, refl, λ q. absurd (false_true q), λ q. refl)
+            | yes! e ↦ rw (eqb-true code 4 e) (refl, refl, refl, λ q. absurd (false≢true q), λ q. refl)
             | no! e4 ↦ elim (is (eqb code 5)) [
               | yes! e ↦ rw (eqb-true code 5 e) (spent_row spent 5)
               | no! e5 ↦ elim (is (eqb code 6)) [
@@ -99,8 +99,8 @@ row spent code =
                 | no! e6 ↦ elim (is (eqb code 7)) [
                   | yes! e ↦ rw (eqb-true code 7 e) (refl, refl, refl, λ q. inr refl, λ q. refl)
                   | no! e7 ↦ elim (is (eqb code 8)) [
-                    | yes! e ↦ rw (eqb-true code 8 e) (refl, refl, refl, λ q. absurd (false_true q), λ q. refl)
-                    | no! e8 ↦ rw (e1, e2, e3, e4, e5, e6, e7, e8) (refl, refl, refl, λ q. absurd (false_true q), λ q. refl)
+                    | yes! e ↦ rw (eqb-true code 8 e) (refl, refl, refl, λ q. absurd (false≢true q), λ q. refl)
+                    | no! e8 ↦ rw (e1, e2, e3, e4, e5, e6, e7, e8) (refl, refl, refl, λ q. absurd (false≢true q), λ q. refl)
                   ]
                 ]
               ]
@@ -115,11 +115,11 @@ unfolding refusable
 table_says n code k e =
     let (pins, list, stop, unclean, unspent) = row (spent_by n) code in
     record {
-      pins = λ z. false_true (sym pins ∙ (rw z at e));
-      list = λ z. false_true (sym list ∙ (rw z at e));
-      stop = λ z. false_true (sym stop ∙ (rw z at e));
+      pins = λ z. false≢true (sym pins ∙ (rw z at e));
+      list = λ z. false≢true (sym list ∙ (rw z at e));
+      stop = λ z. false≢true (sym stop ∙ (rw z at e));
       unclean = λ z. unclean (rw z at e);
-      exhausted = λ z. elim (is (spent_by n)) [ yes! q ↦ leb-true MAX n q | no! q ↦ absurd (false_true (sym (unspent q) ∙ (rw z at e))) ];
+      exhausted = λ z. elim (is (spent_by n)) [ yes! q ↦ leb-true MAX n q | no! q ↦ absurd (false≢true (sym (unspent q) ∙ (rw z at e))) ];
     }
 
 -- of any standing that is in order

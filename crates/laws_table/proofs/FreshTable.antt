@@ -3,12 +3,11 @@
 use Prim.Native.Nat.{ℕ, zero, suc, ◌<◌, ◌≤◌}
 use native.Mathlib.Omega.{arith}
 use mathlib.Core.Path.{◌≡◌, refl, sym, ap, ◌∙◌}
-use mathlib.Core.Bool.{Bool, false}
+use mathlib.Core.Bool.{Bool, false, false≢true}
 use mathlib.Core.List.{List, [], ◌∷◌}
 use mathlib.Core.Option.{none}
 use lib.ListN.{get_or, replicate, length-replicate}
 use Rattle.basics.specs.Counts.{count}
-use Rattle.basics.proofs.Tests.{false_true}
 use Rattle.basics.specs.Lists.{down}
 use Rattle.key.specs.Bucket.{bucket_count}
 use Rattle.index.specs.Fresh.{fresh_index}
@@ -61,6 +60,6 @@ fresh_inv c hp hs =
 pub fresh_valid : (c : ℕ) → 0 < c → c ≤ 256 → Valid (fresh c)
 fresh_valid c hp hs = (
   fresh_inv c hp hs,
-  λ x y hx hy ox oy e. absurd (false_true (sym vacant_free ∙ ap occupied (sym (fresh_slot c x)) ∙ ox)),
-  λ x hx e. absurd (false_true (ap is_clean (sym (fresh_slot c x)) ∙ e)),
+  λ x y hx hy ox oy e. absurd (false≢true (sym vacant_free ∙ ap occupied (sym (fresh_slot c x)) ∙ ox)),
+  λ x hx e. absurd (false≢true (ap is_clean (sym (fresh_slot c x)) ∙ e)),
 )

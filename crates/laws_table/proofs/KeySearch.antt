@@ -3,7 +3,7 @@
 use Prim.Native.Nat.{ℕ, zero, suc, ◌+◌, ◌<◌, ◌≤◌}
 use native.Mathlib.Omega.{arith}
 use mathlib.Core.Path.{◌≡◌, refl, sym, ap, ◌∙◌}
-use mathlib.Core.Bool.{Bool, true}
+use mathlib.Core.Bool.{Bool, true, false≢true}
 use mathlib.Core.List.{List, ◌∷◌}
 use mathlib.Core.Option.{Option, none, some}
 use lib.Dec.{eqb}
@@ -14,7 +14,7 @@ use Rattle.basics.specs.Refusals.{EXHAUSTED}
 use Rattle.basics.specs.Numbers.{NONE, MAX}
 use Rattle.basics.specs.Lists.{first}
 use Rattle.basics.specs.Members.{In}
-use Rattle.basics.proofs.Tests.{yes!, no!, is, false_true}
+use Rattle.basics.proofs.Tests.{yes!, no!, is}
 use Rattle.basics.proofs.Keeps.{hits, fails, look}
 use Rattle.key.specs.declared.CacheKey.{CacheKey}
 use Rattle.key.specs.Key.{same_key}
@@ -79,7 +79,7 @@ module _ (t : State) (v : Inv t) (key : CacheKey) where
       let b : ℕ = bucket_of key t.index.buckets in
       let hb : b < t.index.buckets = bucket_low key t.index.buckets v.chains.some_buckets in
       elim (look (holds t key) (v.chains.chain b)) [
-        | fails f h ↦ lacks! (λ x hx e q. false_true (sym (h x (rw q at (chain_in t v x hx e))) ∙ rw q (same_key_lem key))) (find_list ∙ ap ok f)
+        | fails f h ↦ lacks! (λ x hx e q. false≢true (sym (h x (rw q at (chain_in t v x hx e))) ∙ rw q (same_key_lem key))) (find_list ∙ ap ok f)
         | hits x m q f ↦ let p = in_chain t v b hb x m in finds! x p.0 p.1 (key_eq (slot_at t x).key key q) (find_list ∙ ap ok f)
       ]
 

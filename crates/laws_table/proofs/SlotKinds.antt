@@ -3,7 +3,7 @@
 use Prim.Native.Nat.{ℕ, ◌+◌, ◌<◌}
 use native.Mathlib.Omega.{arith}
 use mathlib.Core.Path.{◌≡◌, refl, sym, ◌∙◌, fun_ext}
-use mathlib.Core.Bool.{true, false, not}
+use mathlib.Core.Bool.{true, false, not, false≢true}
 use mathlib.Core.List.{List}
 use mathlib.Core.Option.{none, some}
 use lib.Dec.{eqb}
@@ -11,7 +11,7 @@ use lib.ListN.{length, get_or, set}
 use lib.Seq.{get_or-set_same, get_or-set_other}
 use borrow.Author.Tests.{eqb-true, eqb-false, ne_eqb}
 use Rattle.basics.specs.Counts.{bit}
-use Rattle.basics.proofs.Tests.{yes!, no!, is, false_true, some_same, none_some}
+use Rattle.basics.proofs.Tests.{yes!, no!, is, some_same, none_some}
 use Rattle.basics.proofs.Maps.{put}
 use Rattle.key.specs.Bucket.{bucket_of}
 use Rattle.state.specs.declared.Slot.{Slot}
@@ -39,11 +39,11 @@ loading_not_clean s e = ne_eqb s.kind 2 (let q = eqb-true s.kind 1 e in omega ar
 
 pub vacant_neither : (s : Slot) → occupied s ≡ false → (is_loading s ≡ false) × (is_clean s ≡ false)
 unfolding occupied
-vacant_neither s e = elim (is (is_loading s)) [ yes! q ↦ absurd (false_true (sym e ∙ rw q refl)) | no! q ↦ (q, rw q at e) ]
+vacant_neither s e = elim (is (is_loading s)) [ yes! q ↦ absurd (false≢true (sym e ∙ rw q refl)) | no! q ↦ (q, rw q at e) ]
 
 pub occupied_loading : (s : Slot) → occupied s ≡ true → is_clean s ≡ false → is_loading s ≡ true
 unfolding occupied
-occupied_loading s h e = elim (is (is_loading s)) [ yes! q ↦ q | no! q ↦ absurd (false_true (sym e ∙ (rw q at h))) ]
+occupied_loading s h e = elim (is (is_loading s)) [ yes! q ↦ q | no! q ↦ absurd (false≢true (sym e ∙ (rw q at h))) ]
 
 -- a slot is just one of vacant, clean and loading
 pub one_kind : (s : Slot) → bit (not (occupied s)) + bit (is_clean s) + bit (is_loading s) ≡ 1

@@ -3,7 +3,7 @@
 use Prim.Native.Nat.{ℕ, zero, suc, ◌<◌, ◌≤◌}
 use native.Mathlib.Omega.{arith}
 use mathlib.Core.Path.{◌≡◌, refl, sym, ap, ◌∙◌}
-use mathlib.Core.Bool.{Bool, true, false, ◌&&◌}
+use mathlib.Core.Bool.{Bool, true, false, ◌&&◌, false≢true}
 use mathlib.Core.List.{List, ◌∷◌}
 use mathlib.Core.Option.{Option, none, some}
 use lib.Dec.{ltb, eqb}
@@ -13,7 +13,7 @@ use Rattle.basics.specs.Refusals.{STALE}
 use Rattle.basics.specs.Numbers.{NONE}
 use Rattle.basics.specs.Lists.{first}
 use Rattle.basics.specs.Answers.{done}
-use Rattle.basics.proofs.Tests.{yes!, no!, is, false_true, and_left, and_right}
+use Rattle.basics.proofs.Tests.{yes!, no!, is, and_left, and_right}
 use Rattle.basics.proofs.Keeps.{hits, fails, look}
 use Rattle.key.specs.declared.CacheKey.{CacheKey}
 use Rattle.key.specs.Key.{same_key}
@@ -85,7 +85,7 @@ module _ (t : State) (v : Inv t) where
         let b : ℕ = bucket_of key t.index.buckets in
         let hb : b < t.index.buckets = bucket_low key t.index.buckets v.chains.some_buckets in
         elim (look (has t key) (v.chains.chain b)) [
-          | fails f h ↦ lacks! (λ x hx e q. false_true (sym (h x (rw q at (chain_in t v x hx (clean_occupied (slot_at t x) e)))) ∙ with_clean t key x e q)) (peek_list ∙ ap ok f)
+          | fails f h ↦ lacks! (λ x hx e q. false≢true (sym (h x (rw q at (chain_in t v x hx (clean_occupied (slot_at t x) e)))) ∙ with_clean t key x e q)) (peek_list ∙ ap ok f)
           | hits x m q f ↦ let c = clean_with_lem t key x q in peeks! x (in_chain t v b hb x m).0 c.0 c.1 (peek_list ∙ ap ok f)
         ]
 

@@ -4,13 +4,13 @@
 use Prim.Native.Nat.{ℕ, ◌+◌, ◌<◌, ◌≤◌}
 use native.Mathlib.Omega.{arith}
 use mathlib.Core.Path.{◌≡◌, refl, sym, ◌∙◌}
-use mathlib.Core.Bool.{true}
+use mathlib.Core.Bool.{true, false≢true}
 use mathlib.Core.List.{List}
 use lib.Dec.{eqb}
 use lib.ListN.{length, get_or, set}
 use lib.Seq.{get_or-set_same, get_or-set_other}
 use borrow.Author.Tests.{eqb-true, eqb-false}
-use Rattle.basics.proofs.Tests.{yes!, no!, is, false_true}
+use Rattle.basics.proofs.Tests.{yes!, no!, is}
 use Rattle.key.specs.declared.CacheKey.{CacheKey}
 use Rattle.state.specs.declared.Slot.{Slot}
 use Rattle.state.specs.declared.State.{State}
@@ -58,10 +58,10 @@ module _ (t : State) (w : Valid t) where
   own_key x key hx ho ek y hy n oy ey = n (w.1 y x hy hx oy ho (ey ∙ sym ek))
 
   pub valid_vacant : {u : State} {x ng nc nl : ℕ} → Step t u x vacant_slot t.next_access_sequence ng nc nl → Valid u
-  valid_vacant p = valid_step vacant_slot p (λ e. absurd (false_true (sym vacant_free ∙ e))) (omega arith) (λ e. absurd (false_true e))
+  valid_vacant p = valid_step vacant_slot p (λ e. absurd (false≢true (sym vacant_free ∙ e))) (omega arith) (λ e. absurd (false≢true e))
 
   pub valid_hit : {u : State} {x ng nc nl : ℕ} (key : CacheKey) → is_clean (slot_at t x) ≡ true → (slot_at t x).key ≡ key → Step t u x (clean_slot key (t.next_access_sequence + 1)) (t.next_access_sequence + 1) ng nc nl → Valid u
   valid_hit {x = x} key ec ek p = valid_step (clean_slot key (t.next_access_sequence + 1)) p (λ e. own_key x key p.low (clean_occupied (slot_at t x) ec) ek) (omega arith) (λ e. omega arith)
 
   pub valid_load : {u : State} {x ng nc nl : ℕ} (key : CacheKey) (g : ℕ) → Absent t key → Step t u x (loading_slot key g) (t.next_access_sequence + 1) ng nc nl → Valid u
-  valid_load key g n p = valid_step (loading_slot key g) p (λ e y hy z oy ey. n y hy oy ey) (omega arith) (λ e. absurd (false_true e))
+  valid_load key g n p = valid_step (loading_slot key g) p (λ e y hy z oy ey. n y hy oy ey) (omega arith) (λ e. absurd (false≢true e))

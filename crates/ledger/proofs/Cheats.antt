@@ -6,13 +6,13 @@ use Prim.Native.Nat.{ℕ, ◌+◌}
 use native.Mathlib.Omega.{arith}
 use mathlib.Core.Path.{◌≡◌, refl, sym, ap, ◌∙◌}
 use mathlib.Core.Logic.{inl, inr}
-use mathlib.Core.Bool.{true}
+use mathlib.Core.Bool.{true, false≢true}
 use mathlib.Core.List.{List, [], ◌∷◌}
 use lib.ListN.{replicate}
 use Rattle.basics.specs.Try.{ok, refuse}
 use Rattle.basics.specs.Refusals.{EXHAUSTED}
 use Rattle.basics.specs.Numbers.{MAX}
-use Rattle.basics.proofs.Tests.{yes!, no!, is, false_true}
+use Rattle.basics.proofs.Tests.{yes!, no!, is}
 use Rattle.state.specs.declared.State.{State}
 use Rattle.state.specs.Answers.{Given, reserved, After}
 use Rattle.state.specs.Fresh.{fresh}
@@ -157,7 +157,7 @@ early_stops : (t : State) (r : After Given) (slot : ℕ)
 early_stops t r slot =
     elim (is (gives_last r.answer)) [
       | yes! q ↦ rw q (λ e. let z : ◌≡◌ {A = ℕ} 5 2 = ap word e in omega arith)
-      | no! q ↦ rw q (λ e. false_true (sym q ∙ ap gives_last e))
+      | no! q ↦ rw q (λ e. false≢true (sym q ∙ ap gives_last e))
     ]
 
 -- with both counts one below 2^64 − 1 an access must still reserve

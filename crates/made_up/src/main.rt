@@ -4,71 +4,67 @@
 // write that fails.
 #![tactic(auto)]
 
-ghost use Rattle.std.specs.Prelude.{◌≡◌, ◌≤◌, length, IfSome};
+ghost use Rattle.std.specs.Prelude.{◌≤◌, length, IfSome};
+ghost use Rattle.picture_numbers.specs.Wrote.{SameList};
 ghost use Rattle.cases.specs.Places.{Within};
 
-use cases::{Call, Ran};
+use cases::Call;
 use key::CacheKey;
-use picture_numbers::flush;
+use picture_numbers::Page;
 use state::{Outcome, State};
 use streams::Failed;
 
-// What was taken of some bytes, and the place behind what was written.
-#[derive(Clone, Copy)]
-struct Taken {
-    used: usize,
-    written: usize,
-}
+// The bytes of cases that are there at once.
+const BLOCK: usize = 262144;
+
+// The room of a page.
+const ROOM: usize = 524288;
 
 fn run_resize(
-    out: &mut [u8],
-    at: usize,
+    page: &mut Page,
     t: State,
     asked: usize,
     pins: &[u8],
     list: &mut [u16],
     count: usize,
-) -> Ran
-    ensures { Within result.at out.old out.new }
+) -> State
+    ensures { Within page.old page.new }
 {
     let places = count.min(list.len());
     let Outcome { state, answer } = maintenance_resize::resize(t, asked, pins, &mut list[..places]);
-    Ran {
-        state,
-        at: cases::put_resized(out, at, answer, &list[..], places),
-    }
+    cases::put_resized(page, answer, &list[..], places);
+    state
 }
 
-fn run_access(out: &mut [u8], at: usize, t: State, key: CacheKey, allow: bool, pins: &[u8]) -> Ran
-    ensures { Within result.at out.old out.new }
+fn run_access(page: &mut Page, t: State, key: CacheKey, allow: bool, pins: &[u8]) -> State
+    ensures { Within page.old page.new }
 {
     let Outcome { state, answer } = state_access::access(t, key, allow, pins);
-    Ran {
-        state,
-        at: cases::put_access(out, at, answer),
-    }
+    cases::put_access(page, answer);
+    state
 }
 
-fn run(out: &mut [u8], at: usize, t: State, call: Call, pins: &[u8]) -> Ran
-    ensures { Within result.at out.old out.new }
+fn run(page: &mut Page, t: State, call: Call, pins: &[u8]) -> State
+    ensures { Within page.old page.new }
 {
+    // No enum: the codes are those of oracle/README.md's forms, a byte may be any, and the last arm takes the rest.
     match call.code {
-        2 => run_access(out, at, t, call.token.key, call.allow, pins),
+        2 => run_access(page, t, call.token.key, call.allow, pins),
         8 => {
             let mut list: [u16; 65535] = [7; 65535];
-            run_resize(out, at, t, call.number, pins, &mut list, call.list)
+            run_resize(page, t, call.number, pins, &mut list, call.list)
         }
-        _ => cases::run(out, at, t, call, pins),
+        _ => cases::run(page, t, call, pins),
     }
 }
 
 // The line of a case.
-fn put_case(out: &mut [u8], at: usize, number: u64, t: State, call: Call, pins: &[u8]) -> usize
-    ensures { Within result out.old out.new }
+fn put_case(page: &mut Page, number: u64, t: State, call: Call, pins: &[u8])
+    ensures { Within page.old page.new }
 {
-    let a = picture_numbers::digits(out, at, number);
-    let ran = run(out, a, t, call, pins);
-    cases::put_state(out, ran.at, &ran.state)
+    page.digits(number);
+    let state = run(page, t, call, pins);
+    cases::put_state(page, &state);
 }
 
 // Whether there is such a call.
@@ -76,11 +72,11 @@ fn known(code: u8) -> bool {
     matches!(code, 2..=6 | 8..=15)
 }
 
-// The case at the front of some bytes: how many it has, and the place behind its line. There is none where it is cut off or of an unknown code.
-fn take_case(out: &mut [u8], at: usize, number: u64, bytes: &[u8]) -> Option<Taken>
-    ensures used_in_bounds { IfSome result (λ taken. taken.used ≤ length bytes.now) }
-    ensures within { IfSome result (λ taken. Within taken.written out.old out.new) }
-    ensures out_len_unchanged { length out.new ≡ length out.old }
+// The case at the front of some bytes, and its line: how many bytes it has. There is none where it is cut off or of an unknown code.
+fn take_case(page: &mut Page, number: u64, bytes: &[u8]) -> Option<usize>
+    ensures used_in_bounds { IfSome result (λ used. used ≤ length bytes.now) }
+    ensures within { IfSome result (λ _. Within page.old page.new) }
+    ensures same_list { SameList page.old page.new }
 {
     let call = cases::read_call(bytes, 0);
     let table = cases::read_table(bytes, cases::CALL);
@@ -89,42 +85,20 @@ fn take_case(out: &mut [u8], at: usize, number: u64, bytes: &[u8]) -> Option<Tak
     if bytes.len() < end || end < from || !known(call.code) {
         return None;
     }
-    let pins = &bytes[from..end];
-    Some(Taken {
-        used: end,
-        written: put_case(out, at, number, table.state, call, pins),
-    })
+    put_case(page, number, table.state, call, &bytes[from..end]);
+    Some(end)
 }
 
-// All cases. What was written before the last is written out, whatever ends them.
-fn run_all<R: Input + Print + Eprint>(
-    rt: &R,
-    bytes: &mut [u8],
-    out: &mut [u8],
-) -> Result<(), Failed> {
-    let mut written = 0;
-    let mut number = 0;
-    let mut from = 0;
-    let mut end = 0;
-    for _ in 0..u64::MAX {
-        let Ok(waiting) = cases::wait(rt, bytes, from, end) else {
-            break;
-        };
-        let case = &bytes[waiting.at..waiting.have];
-        let Some(taken) = take_case(out, written, number, case) else {
-            break;
-        };
-        written = flush(rt, out, taken.written, cases::FULL)?;
-        from = waiting.at + taken.used;
-        end = waiting.have;
-        number = basics::one_more(number);
-    }
-    flush(rt, out, written, 0)?;
-    Ok(())
+fn run_all<R: Input + Print + Eprint>(rt: &R) -> Result<(), Failed> {
+    let mut bytes: [u8; BLOCK] = [0; BLOCK];
+    let mut out: [u8; ROOM] = [0; ROOM];
+    let mut page = Page {
+        bytes: &mut out,
+        at: 0,
+    };
+    cases::run_all(rt, &mut bytes, &mut page, take_case)
 }
 
 fn main(rt: HostRuntime) {
-    let mut bytes: [u8; 262144] = [0; 262144];
-    let mut out: [u8; 524288] = [0; 524288];
-    let _ = run_all(&rt, &mut bytes, &mut out);
+    let _ = run_all(&rt);
 }

@@ -8,7 +8,7 @@
 
 ghost use Rattle.std.specs.Prelude.{◌≡◌, ◌≤◌};
 ghost use Rattle.maintenance_reclaim.specs.Answers.{batch_after};
-ghost use Rattle.maintenance_reclaim.specs.Parts.{removed_answer};
+ghost use Rattle.maintenance_reclaim.specs.Parts.{removed_answer, taken};
 ghost use Rattle.maintenance_reclaim.specs.Reclaim.{no_slots, reclaim_from, unless_refused as unless_stopped, reclaim as reclaim_rule};
 
 use basics::Refusal;
@@ -17,7 +17,8 @@ use state::State;
 // The most slots that one reclaim removes.
 pub const RECLAIM_BATCH: usize = 64;
 
-// What reclaim hands back, in fixed memory: the slots removed in order, then 65535, and how many they are.
+// What reclaim hands back, in fixed memory: the slots removed in order, then 65535, and how many they are. No `Result` holds them: document 01 says what
+// they are after a refusal too, 65535 throughout and count 0.
 #[derive(Clone, Copy)]
 pub struct Batch {
     pub state: State,
@@ -26,67 +27,58 @@ pub struct Batch {
     pub answer: Result<(), Refusal>,
 }
 
-// The same where nothing was refused.
-#[derive(Clone, Copy)]
-struct Removed {
-    state: State,
-    slots: [u16; RECLAIM_BATCH],
-    count: usize,
-}
-
-// So many rounds: a victim is looked for afresh and removed. A refusal in a later round gives up the earlier removals too.
-#[tactic(auto, using(crate::proofs::Reclaims::round_refused, crate::proofs::Reclaims::round_none, crate::proofs::Reclaims::round_stops, crate::proofs::Reclaims::round_on, crate::proofs::Reclaims::victim_low, crate::proofs::Reclaims::rounds_end))]
-fn reclaim_rounds(t: &State, rounds: usize, pins: &[u8]) -> Result<Removed, Refusal>
+// So many rounds: a victim is looked for afresh and removed. The answer is how many slots were; a refusal leaves the earlier removals.
+#[tactic(auto, using(crate::proofs::Reclaims::round_step, crate::proofs::Reclaims::rounds_end, eviction::proofs::Cases::victim_below), unfolding(state::specs::Victim::victim))]
+fn reclaim_rounds(
+    t: &mut State,
+    slots: &mut [u16; RECLAIM_BATCH],
+    rounds: usize,
+    pins: &[u8],
+) -> Result<usize, Refusal>
     requires { rounds ≤ 64 }
-    ensures { removed_answer result ≡ reclaim_from rounds pins.now (record { table = t.now; count = 0; slots = no_slots }) }
+    ensures { removed_answer t.new slots.new result ≡ reclaim_from rounds pins.now (taken t.old 0 slots.old) }
 {
-    let mut rest = *t;
-    let mut slots = [basics::NONE; RECLAIM_BATCH];
     for count in 0..rounds {
-        let Some(slot) = state_choice::victim(rest.capacity, &rest.eviction, rest.clean, pins)?
-        else {
-            return Ok(Removed {
-                state: rest,
-                slots,
-                count,
-            });
+        let Some(slot) = state_choice::victim(t, pins)? else {
+            return Ok(count);
         };
-        state_remove::remove(&mut rest, slot)?;
+        state_remove::remove(t, slot)?;
         slots[count] = slot as u16;
     }
-    Ok(Removed {
-        state: rest,
-        slots,
-        count: rounds,
-    })
+    Ok(rounds)
 }
 
 // The tests, then the rounds.
 #[tactic(auto, unfolding(crate::specs::Reclaim::reclaim))]
-fn reclaim_tested(t: &State, limit: usize, pins: &[u8]) -> Result<Removed, Refusal>
-    ensures { unless_stopped t.now (removed_answer result) ≡ reclaim_rule t.now limit pins.now }
+fn reclaim_tested(
+    t: &mut State,
+    slots: &mut [u16; RECLAIM_BATCH],
+    limit: usize,
+    pins: &[u8],
+) -> Result<usize, Refusal>
+    requires { slots.old ≡ no_slots }
+    ensures { unless_stopped t.old (removed_answer t.new slots.new result) ≡ reclaim_rule t.old limit pins.now }
 {
     t.check_sound()?;
     if pins.len() != t.capacity {
         return Err(Refusal::Pins);
     }
-    reclaim_rounds(t, limit.min(RECLAIM_BATCH), pins)
+    reclaim_rounds(t, slots, limit.min(RECLAIM_BATCH), pins)
 }
 
-// The Rust's `reclaim_batch`.
+// The Rust's `reclaim_batch`. A refusal in a later round gives up the earlier removals too: it hands back the table that came.
 pub fn reclaim(t: State, limit: usize, pins: &[u8]) -> Batch
     ensures { batch_after result ≡ reclaim_rule t limit pins.now }
 {
-    match reclaim_tested(&t, limit, pins) {
-        Ok(removed) => {
-            let slots = removed.slots;
-            Batch {
-                state: removed.state,
-                slots,
-                count: removed.count,
-                answer: Ok(()),
-            }
-        }
+    let mut state = t;
+    let mut slots = [basics::NONE; RECLAIM_BATCH];
+    match reclaim_tested(&mut state, &mut slots, limit, pins) {
+        Ok(count) => Batch {
+            state,
+            slots,
+            count,
+            answer: Ok(()),
+        },
         Err(why) => Batch {
             state: t,
             slots: [basics::NONE; RECLAIM_BATCH],

@@ -2,46 +2,40 @@
 -- The loops of resize one slot on and at their ends, and what each step does with a slot. Assumes nothing.
 use Rattle.std.proofs.Common.{if◌then◌else◌}
 use Prim.Native.Nat.{ℕ, zero, suc, ◌+◌, ◌-◌, ◌≤◌, ◌<◌}
-use mathlib.Core.Path.{◌≡◌, refl, sym, ◌∙◌, ap}
+use mathlib.Core.Path.{◌≡◌, refl, sym, ◌∙◌}
 use mathlib.Core.Bool.{Bool, true, false}
-use mathlib.Core.List.{List, ◌∷◌}
+use mathlib.Core.List.{List}
 use mathlib.Core.Option.{Option, none, some}
 use native.Mathlib.Omega.{arith}
 use lib.Dec.{leb, ltb, eqb}
-use lib.ListN.{set, take, replicate}
+use lib.ListN.{set, take, get_or}
 use borrow.Author.Tests.{leb-false, le-leb, lt-leb, eq-eqb, ne_eqb}
 use Rattle.basics.specs.Try.{Try, ok, refuse, ◌>>=◌, ◌>>◌, need}
 use Rattle.basics.specs.Refusals.{STOP}
 use Rattle.basics.specs.Numbers.{NONE}
 use Rattle.basics.specs.Lists.{each_slot}
-use Rattle.basics.proofs.Tests.{yes!, no!, is, no_ltb, some_ltb, met}
+use Rattle.basics.proofs.Tests.{yes!, no!, is, no_ltb, some_ltb, met, left_suc, left_none, refuse_ok}
 use Rattle.key.specs.declared.CacheKey.{CacheKey}
 use Rattle.index.specs.Chain.{CHAIN, head_of, next_of}
 use Rattle.eviction.specs.Entries.{at}
 use Rattle.state.specs.declared.State.{State}
-use Rattle.state.specs.Slots.{slot_at, clean_with}
+use Rattle.state.specs.declared.Slot.{Slot}
+use Rattle.state.specs.Slots.{slot_at, vacant_slot, clean_with}
 use Rattle.state.specs.Fresh.{sound}
 use Rattle.state.specs.Remove.{detach_clean, remove_clean}
 use Rattle.state.specs.Reads.{peek_from, peek_clean}
 use Rattle.state.proofs.Cases.{sound_sizes_lem}
+use Rattle.maintenance_restore.specs.Answers.{restored}
 use Rattle.maintenance_restore.specs.Restore.{restore}
+use Rattle.std.specs.Prelude.{Ok}
 use Rattle.maintenance_resize.specs.Move.{Moving, moving_of, leave_to, leave_pinned, drop_oldest, keep_new, restore_unless, restore_rest, move_or_remove, move_rest}
-use Rattle.maintenance_restore.proofs.Cases.{left_suc}
-use lib.Seq.{take-set-lt}
-
--- ---- lists
-
--- the first places of an array that holds one number throughout
-pub take_same : (n m a : ℕ) → n ≤ m → take n (replicate m a) ≡ replicate n a
-take_same zero m a l = refl
-take_same (suc n) zero a l = absurd (omega arith)
-take_same (suc n) (suc m) a l = ap (λ (r : List ℕ). a ∷ r) (take_same n m a (omega arith))
+use lib.Seq.{take-set-lt, get_or-take}
 
 -- ---- a step for each slot
 
 each_end : {A : Type 0} (step : ℕ → A → Try A) (c slot : ℕ) (a : A) → c ≤ slot → each_slot step (c - slot) slot a ≡ ok a
 unfolding each_slot
-each_end step c slot a l = let z : c - slot ≡ 0 = omega arith in rw z
+each_end step c slot a l = rw (left_none c slot l)
 
 each_step : {A : Type 0} (step : ℕ → A → Try A) (c slot : ℕ) (a : A) → slot < c → each_slot step (c - slot) slot a ≡ (step slot a >>= λ b. each_slot step (c - (slot + 1)) (slot + 1) b)
 unfolding each_slot
@@ -59,16 +53,13 @@ peek_far : (b : Bool) (c s : ℕ) (k : Bool) (x : ℕ) (r : Try (Option ℕ))
 peek_far true c s k x r e f = let z : ◌≡◌ {A = ℕ} 0 1 = cc in absurd (omega arith)
 peek_far false c s k x r e f =
     elim (is (leb c s)) [
-      | yes! l ↦
-          let q : refuse STOP ≡ ok (some x) = rw l at e in
-          let z : ◌≡◌ {A = ℕ} 0 1 = cc in
-          absurd (omega arith)
+      | yes! l ↦ absurd (refuse_ok {a = some x} (rw l at e))
       | no! l ↦ peek_rest k c s x r (leb-false c s l) (rw l at e) f
     ]
 
 peek_last : (b : Bool) (c x : ℕ) → (if b then ok none else refuse STOP) ≡ ok (some x) → x < c
 peek_last true c x e = let z : ◌≡◌ {A = ℕ} 0 1 = cc in absurd (omega arith)
-peek_last false c x e = let z : ◌≡◌ {A = ℕ} 0 1 = cc in absurd (omega arith)
+peek_last false c x e = absurd (refuse_ok e)
 
 peek_from_low : (n : ℕ) (t : State) (key : CacheKey) (s x : ℕ) → peek_from n t key s ≡ ok (some x) → x < t.capacity
 unfolding peek_from
@@ -113,38 +104,43 @@ module _ (c slot : ℕ) (old made : State) (list : List ℕ) where
       leave_left d = each_step leave_pinned c slot (moving_of old made (take c list)) l ∙ rw (eq-eqb (slot_at old slot).kind 2 k, ← p, ← d, take-set-lt c list slot to l)
 
 -- ---- the second loop
-module _ (c slot : ℕ) (old made : State) (list : List ℕ) where
+module _ (slot : ℕ) (old made : State) (list : List ℕ) where
+  -- the slot as the code reads it, among the first ones
+  abbrev entry : Slot
+  entry = get_or (take old.capacity old.slots) slot vacant_slot
+
+  same_entry : slot < old.capacity → entry ≡ slot_at old slot
+  same_entry l = get_or-take old.capacity old.slots slot vacant_slot l
+
   abbrev filling : ℕ → State → Try Moving
-  filling s t = each_slot restore_rest (c - s) s (moving_of old t list)
+  filling s t = each_slot restore_rest (old.capacity - s) s (moving_of old t list)
 
-  pub rest_end : c ≤ slot → filling slot made ≡ ok (moving_of old made list)
-  rest_end l = each_end restore_rest c slot (moving_of old made list) l
+  pub rest_end : old.capacity ≤ slot → filling slot made ≡ ok (moving_of old made list)
+  rest_end l = each_end restore_rest old.capacity slot (moving_of old made list) l
 
-  pub rest_unclean : slot < c → ((slot_at old slot).kind ≡ 2 → ⊥) → filling slot made ≡ filling (slot + 1) made
+  pub rest_unclean : slot < old.capacity → (entry.kind ≡ 2 → ⊥) → filling slot made ≡ filling (slot + 1) made
   unfolding restore_rest
-  rest_unclean l k = each_step restore_rest c slot (moving_of old made list) l ∙ rw (ne_eqb (slot_at old slot).kind 2 k)
+  rest_unclean l k = each_step restore_rest old.capacity slot (moving_of old made list) l ∙ rw (← same_entry l, ne_eqb entry.kind 2 k)
 
-  module _ (l : slot < c) (k : (slot_at old slot).kind ≡ 2) where
-    pub rest_refused : {n : ℕ} → refuse n ≡ peek_clean made (slot_at old slot).key → filling slot made ≡ refuse n
+  module _ (l : slot < old.capacity) (k : entry.kind ≡ 2) where
+    pub rest_refused : {n : ℕ} → refuse n ≡ peek_clean made entry.key → filling slot made ≡ refuse n
     unfolding restore_rest
-    rest_refused p = each_step restore_rest c slot (moving_of old made list) l ∙ rw (eq-eqb (slot_at old slot).kind 2 k, ← p)
+    rest_refused p = each_step restore_rest old.capacity slot (moving_of old made list) l ∙ rw (← same_entry l, eq-eqb entry.kind 2 k, ← p)
 
-    pub rest_there : {to : ℕ} → ok (some to) ≡ peek_clean made (slot_at old slot).key → filling slot made ≡ filling (slot + 1) made
+    pub rest_there : {to : ℕ} → ok (some to) ≡ peek_clean made entry.key → filling slot made ≡ filling (slot + 1) made
     unfolding restore_rest restore_unless
-    rest_there p = each_step restore_rest c slot (moving_of old made list) l ∙ rw (eq-eqb (slot_at old slot).kind 2 k, ← p)
+    rest_there p = each_step restore_rest old.capacity slot (moving_of old made list) l ∙ rw (← same_entry l, eq-eqb entry.kind 2 k, ← p)
 
-    module _ (p : ok none ≡ peek_clean made (slot_at old slot).key) where
-      pub rest_stops : {n : ℕ} → refuse n ≡ restore made (slot_at old slot).key (slot_at old slot).last_access → filling slot made ≡ refuse n
+    module _ (p : ok none ≡ peek_clean made entry.key) where
+      pub rest_stops : {n : ℕ} → refuse n ≡ restore made entry.key entry.last_access → filling slot made ≡ refuse n
       unfolding restore_rest restore_unless
-      rest_stops r = each_step restore_rest c slot (moving_of old made list) l ∙ rw (eq-eqb (slot_at old slot).kind 2 k, ← p, ← r)
+      rest_stops r = each_step restore_rest old.capacity slot (moving_of old made list) l ∙ rw (← same_entry l, eq-eqb entry.kind 2 k, ← p, ← same_entry l, ← r)
 
-      pub rest_full : ok none ≡ restore made (slot_at old slot).key (slot_at old slot).last_access → filling slot made ≡ filling (slot + 1) made
+      pub rest_tried : (room : Bool) {u : State} → restored u (Ok room) ≡ restore made entry.key entry.last_access → (room ≡ false → u ≡ made)
+          → filling slot made ≡ filling (slot + 1) u
       unfolding restore_rest restore_unless keep_new
-      rest_full r = each_step restore_rest c slot (moving_of old made list) l ∙ rw (eq-eqb (slot_at old slot).kind 2 k, ← p, ← r)
-
-      pub rest_restored : {u : State} → ok (some u) ≡ restore made (slot_at old slot).key (slot_at old slot).last_access → filling slot made ≡ filling (slot + 1) u
-      unfolding restore_rest restore_unless keep_new
-      rest_restored r = each_step restore_rest c slot (moving_of old made list) l ∙ rw (eq-eqb (slot_at old slot).kind 2 k, ← p, ← r)
+      rest_tried true r same = each_step restore_rest old.capacity slot (moving_of old made list) l ∙ rw (← same_entry l, eq-eqb entry.kind 2 k, ← p, ← same_entry l, ← r)
+      rest_tried false r same = each_step restore_rest old.capacity slot (moving_of old made list) l ∙ rw (← same_entry l, eq-eqb entry.kind 2 k, ← p, ← same_entry l, ← r, same refl)
 
 -- ---- the third loop
 module _ (c slot : ℕ) (old made : State) (list : List ℕ) where
@@ -187,7 +183,7 @@ drop_step k i old made list l = rw (left_suc k i l)
 module _ (k i : ℕ) (old made : State) (list : List ℕ) where
   pub drop_end : k ≤ i → drop_oldest (k - i) (moving_of old made list) ≡ refuse STOP
   unfolding drop_oldest
-  drop_end l = let z : k - i ≡ 0 = omega arith in rw z
+  drop_end l = rw (left_none k i l)
 
   pub drop_fits : i < k → old.clean ≤ made.capacity - made.clean → drop_oldest (k - i) (moving_of old made list) ≡ ok (moving_of old made list)
   drop_fits l h = drop_step k i old made list l ∙ rw (le-leb old.clean (made.capacity - made.clean) h)

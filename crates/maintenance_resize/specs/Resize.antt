@@ -1,8 +1,9 @@
 -- SPDX-License-Identifier: Apache-2.0
 -- "Resize is `maintain_capacity` after its gate, one step."
-use Rattle.std.specs.Prelude.{ℕ, ◌&&◌, List, ltb, eqb, length, replicate, if◌then◌else◌}
+use Rattle.std.specs.Prelude.{ℕ, Bool, ◌&&◌, List, ltb, eqb, length, replicate, if◌then◌else◌}
 use Rattle.std.proofs.Math.Option.{Option, none, some}
 use Rattle.basics.specs.Try.{Try, ok, refuse, ◌>>=◌, ◌>>◌, need}
+use Rattle.basics.specs.Answers.{Fine, done}
 use Rattle.basics.specs.Refusals.{STOP, PINS, LIST, UNCLEAN}
 use Rattle.basics.specs.Numbers.{NONE}
 use Rattle.state.specs.declared.State.{State}
@@ -46,6 +47,18 @@ resize_steps t asked pins list =
     if ltb 0 t.loading then ok (listed t busy_now list) else do
       need (pins_clean t.capacity t pins 0) UNCLEAN
       resize_to t pins list (raised asked pins)
+
+-- "The gate stands after 10's first test and 1 to 5.": those tests of resize, with so many pin bytes and places of the list
+unfoldable pub need_input_of : ℕ → Bool → ℕ → ℕ → ℕ → Try Fine
+need_input_of capacity sound? asked pins list = do
+  need sound? STOP
+  need_capacity asked
+  need (eqb pins capacity) PINS
+  need (eqb list capacity) LIST
+  ok done
+
+abbrev pub need_input : State → ℕ → ℕ → ℕ → Try Fine
+need_input t asked pins list = need_input_of t.capacity (sound t) asked pins list
 
 -- "that first test of 10, then 1 to 5 by number, then the steps"
 unfoldable pub resize : State → ℕ → List ℕ → List ℕ → Resizing

@@ -6,9 +6,10 @@
 // came.
 #![tactic(auto)]
 
-ghost use Rattle.std.specs.Prelude.{◌≡◌, ◌≤◌, ◌<◌, length};
+ghost use Rattle.std.specs.Prelude.{◌≡◌, ◌≤◌, ◌<◌, length, OnOk};
+ghost use Rattle.basics.specs.Answers.{done_answer};
 ghost use Rattle.maintenance_resize.specs.Answers.{maintained_after};
-ghost use Rattle.maintenance_resize.specs.Resize.{unless_refused, resize_to, resize as resize_rule};
+ghost use Rattle.maintenance_resize.specs.Resize.{unless_refused, need_input, resize_to, resize as resize_rule};
 
 mod remake;
 
@@ -48,14 +49,28 @@ fn resize_to(
     let Some(new) = restore::candidate(t, pins, capacity < t.capacity, capacity)? else {
         return Ok(Maintenance::Busy);
     };
-    let made = remake::remake(t, new)?;
-    list.copy_from_slice(&made.list[..list.len()]);
-    *t = made.state;
-    Ok(Maintenance::Resized(t.capacity))
+    remake::remake(t, new, list)
+}
+
+// The first test of resize, and 1 to 4, with so many pin bytes and places of the list.
+#[tactic(auto, using(basics::proofs::Tests::tests, state::proofs::Cases::sound_sizes_lem, basics::proofs::Capacities::capacity_fits), unfolding(crate::specs::Resize::need_input_of))]
+pub fn check_input(t: &State, asked: usize, pins: usize, list: usize) -> Result<(), Refusal>
+    ensures value { done_answer result ≡ need_input t.now asked pins list }
+    ensures within { OnOk result (((t.now.capacity ≤ 256) × (pins ≡ t.now.capacity)) × ((list ≡ t.now.capacity) × ((0 < asked) × (asked ≤ 256)))) }
+{
+    t.check_sound()?;
+    basics::check_capacity(asked)?;
+    if pins != t.capacity {
+        return Err(Refusal::Pins);
+    }
+    if list != t.capacity {
+        return Err(Refusal::List);
+    }
+    Ok(())
 }
 
 // The tests, then from the raised capacity on. Where it refuses, table and list are as they came.
-#[tactic(auto, using(basics::proofs::Tests::tests, state::proofs::Cases::sound_sizes_lem, basics::proofs::Capacities::capacity_fits), unfolding(crate::specs::Resize::resize, crate::specs::Resize::resize_steps))]
+#[tactic(auto, using(basics::proofs::Tests::tests, crate::proofs::Resizes::resize_refused, crate::proofs::Resizes::resize_on), unfolding(crate::specs::Resize::resize_steps))]
 fn resize_tested(
     t: &mut State,
     asked: usize,
@@ -64,14 +79,7 @@ fn resize_tested(
 ) -> Result<Maintenance, Refusal>
     ensures { maintained_after (record { state = t.new; answer = result }) list.new ≡ resize_rule t.old asked pins.now list.old }
 {
-    t.check_sound()?;
-    basics::check_capacity(asked)?;
-    if pins.len() != t.capacity {
-        return Err(Refusal::Pins);
-    }
-    if list.len() != t.capacity {
-        return Err(Refusal::List);
-    }
+    check_input(t, asked, pins.len(), list.len())?;
     if asked == t.capacity {
         return Ok(Maintenance::Unchanged);
     }

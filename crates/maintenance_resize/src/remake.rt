@@ -3,24 +3,21 @@
 // Ported from src/fs/cache/maintenance.rs of HypeR-Proj/kernel at 53afd06a1d, changed; see NOTICE.
 
 // maintenance.rs, the steps from the new table with the pinned keys on: what leaves the old table, what the new one takes, and the list. They work in
-// place, on copies that a refusal drops. The three loops over the old slots stay apart: a closure for what each does with a slot is no plainer.
+// place, on copies that a refusal drops. The three loops over the old slots stay apart: a closure for what each does with a slot is no plainer. Two of
+// them go by slot number, since they change the table whose slots they go over. All require a capacity of at most 256, which resize has tested (crate
+// state_remove says why no type holds that).
 // Each `as u16` is proved to lose nothing; `try_from` could fail.
-ghost use Rattle.std.specs.Prelude.{◌≡◌, List, ℕ, ◌≤◌, take};
+ghost use Rattle.std.specs.Prelude.{◌≡◌, List, ℕ, ◌≤◌, take, length};
 ghost use Rattle.basics.specs.Lists.{each_slot};
-ghost use Rattle.state_remove.specs.Answers.{tried};
-ghost use Rattle.maintenance_resize.specs.Parts.{remade_answer};
+ghost use Rattle.basics.specs.Answers.{tried};
+ghost use Rattle.maintenance_resize.specs.Answers.{maintained_after};
+ghost use Rattle.maintenance_resize.specs.Resize.{unless_refused};
 ghost use Rattle.maintenance_resize.specs.Move.{moving_of, leave_pinned, drop_oldest, restore_rest, move_rest, inherit as inherit_rule, remake as remake_rule};
 
+use crate::Maintenance;
 use basics::Refusal;
 use maintenance_restore::restore::restore;
 use state::State;
-
-// A table with a list of slots, one for each slot of the old table.
-#[derive(Clone, Copy)]
-pub(crate) struct Listed {
-    pub(crate) state: State,
-    pub(crate) list: [u16; 256],
-}
 
 // The keys that the new table has leave the old one. The list says where they are.
 #[tactic(auto, using(crate::proofs::Moves::peek_low, crate::proofs::Moves::leave_unclean, crate::proofs::Moves::leave_refused, crate::proofs::Moves::leave_absent, crate::proofs::Moves::leave_stops, crate::proofs::Moves::leave_left, crate::proofs::Moves::leave_end))]
@@ -55,7 +52,7 @@ fn drop_oldest(old: &mut State, new: &State) -> Result<(), Refusal>
     ensures size { old.new.capacity ≡ old.old.capacity }
 {
     let room = new.capacity.saturating_sub(new.clean);
-    for round in 0..ROUNDS {
+    for _ in 0..ROUNDS {
         if old.clean <= room {
             return Ok(());
         }
@@ -69,18 +66,14 @@ fn drop_oldest(old: &mut State, new: &State) -> Result<(), Refusal>
 }
 
 // The rest of the old table's keys are restored in old slot order, where a chain takes them.
-#[tactic(auto, using(crate::proofs::Moves::rest_unclean, crate::proofs::Moves::rest_refused, crate::proofs::Moves::rest_there, crate::proofs::Moves::rest_stops, crate::proofs::Moves::rest_full, crate::proofs::Moves::rest_restored, crate::proofs::Moves::rest_end))]
+#[tactic(auto, using(crate::proofs::Moves::rest_unclean, crate::proofs::Moves::rest_refused, crate::proofs::Moves::rest_there, crate::proofs::Moves::rest_stops, crate::proofs::Moves::rest_tried, crate::proofs::Moves::rest_end))]
 fn restore_rest(old: &State, new: &mut State) -> Result<(), Refusal>
     requires { old.now.capacity ≤ 256 }
     ensures { (list : List ℕ) → tried (moving_of old.now new.new list) result ≡ each_slot restore_rest old.now.capacity 0 (moving_of old.now new.old list) }
 {
-    for slot in 0..old.capacity {
-        let entry = old.slots[slot];
-        if entry.kind != state::CLEAN || state_search::peek(new, entry.key)?.is_some() {
-            continue;
-        }
-        if let Some(grown) = restore(*new, entry.key, entry.last_access)? {
-            *new = grown;
+    for entry in &old.slots[..old.capacity] {
+        if entry.kind == state::CLEAN && state_search::peek(new, entry.key)?.is_none() {
+            restore(new, entry.key, entry.last_access)?;
         }
     }
     Ok(())
@@ -118,19 +111,24 @@ fn inherit(new: &mut State, old: &State)
     new.counters = old.counters;
 }
 
-// From the new table with the pinned keys on: the steps that remake the table.
+// From the new table with the pinned keys on: the steps that remake the table. Where one refuses, table and list are as they came.
 #[tactic(auto, using(crate::proofs::Resizes::remake_unleft))]
-pub(crate) fn remake(old: &State, new: State) -> Result<Listed, Refusal>
-    requires { old.now.capacity ≤ 256 }
-    ensures { remade_answer old.now.capacity result ≡ remake_rule old.now new }
+pub(crate) fn remake(
+    t: &mut State,
+    mut new: State,
+    list: &mut [u16],
+) -> Result<Maintenance, Refusal>
+    requires { (t.old.capacity ≤ 256) × (length list.old ≡ t.old.capacity) }
+    ensures { maintained_after (record { state = t.new; answer = result }) list.new ≡ unless_refused t.old list.old (remake_rule t.old new) }
 {
-    let mut rest = *old;
-    let mut state = new;
-    let mut list = [basics::NONE; 256];
-    leave_pinned(&mut rest, &state, &mut list)?;
-    drop_oldest(&mut rest, &state)?;
-    restore_rest(&rest, &mut state)?;
-    move_rest(&mut rest, &state, &mut list)?;
-    inherit(&mut state, &rest);
-    Ok(Listed { state, list })
+    let mut rest = *t;
+    let mut slots = [basics::NONE; 256];
+    leave_pinned(&mut rest, &new, &mut slots)?;
+    drop_oldest(&mut rest, &new)?;
+    restore_rest(&rest, &mut new)?;
+    move_rest(&mut rest, &new, &mut slots)?;
+    inherit(&mut new, &rest);
+    list.copy_from_slice(&slots[..list.len()]);
+    *t = new;
+    Ok(Maintenance::Resized(t.capacity))
 }

@@ -1,34 +1,36 @@
 -- SPDX-License-Identifier: Apache-2.0
 -- The rules of resize's pins and restoring one step on and at their ends, each as an equation on plain variables, and what the code's answers
 -- tell of a rule. Assumes nothing.
-use Rattle.std.proofs.Common.{if◌then◌else◌, cond, count_by}
+use Rattle.std.proofs.Common.{if◌then◌else◌, cond, count_by, length, leb, pow_pos, pow_mono, leb-false, leb-true}
 use Rattle.std.proofs.lemmas.List.Recursion.{is_count_by}
-use Prim.Native.Nat.{ℕ, zero, suc, max, ◌+◌, ◌-◌, ◌*◌, ◌/◌, ◌≤◌, ◌<◌}
+use Rattle.std.specs.Int.{IsPowerOfTwo}
+use Rattle.std.specs.List.{list_all, zip}
+use Rattle.std.proofs.Math.Bool.{and-false}
+use Prim.Native.Nat.{ℕ, zero, suc, max, ◌+◌, ◌-◌, ◌*◌, ◌/◌, ◌^◌, ◌≤◌, ◌<◌}
+use mathlib.Core.Logic.{◌⊎◌, inl, inr}
 use mathlib.Core.Path.{◌≡◌, refl, sym, ◌∙◌, ap}
 use mathlib.Core.Bool.{Bool, true, false, not, ◌&&◌, ◌||◌}
-use mathlib.Core.List.{List}
-use mathlib.Core.Option.{none, some}
+use mathlib.Core.List.{List, [], ◌∷◌}
+use mathlib.Core.Option.{Option, none, some}
 use native.Mathlib.Omega.{arith}
 use lib.Dec.{ltb, eqb}
 use lib.ListN.{get_or}
-use borrow.Author.Tests.{ltb-true, eq-eqb, ne_eqb, lt-ltb, le-ltb}
-use Rattle.basics.specs.Try.{ok, refuse, ◌>>=◌}
+use borrow.Author.Tests.{ltb-true, lt-ltb, le-ltb}
+use Rattle.basics.specs.Try.{Try, ok, refuse, ◌>>=◌}
 use Rattle.basics.specs.Refusals.{STOP}
-use Rattle.basics.specs.Numbers.{NONE, power_over, doubled}
-use Rattle.basics.specs.Capacity.{need_capacity}
+use Rattle.basics.specs.Numbers.{NONE, power_over}
 use Rattle.basics.proofs.Capacities.{capacity_allowed}
-use Rattle.basics.proofs.Tests.{and_left, met, ok_same}
-use Rattle.key.specs.Bucket.{bucket_count, count_for}
-use Rattle.key.proofs.Least.{count_half, few_buckets}
+use Rattle.basics.proofs.Tests.{and_left, met, yes!, no!, is, bind_same, left_suc, left_none}
+use Rattle.key.proofs.Least.{power_least, least_one}
 use Rattle.key.specs.declared.CacheKey.{CacheKey}
 use Rattle.index.specs.declared.Index.{Index}
 use Rattle.index.specs.Chain.{sized, next_of, head_of, insert_index}
 use Rattle.index.proofs.Cases.{has_sizes}
-use Rattle.eviction.specs.Victim.{unpinned}
 use Rattle.state.specs.declared.State.{State}
-use Rattle.state.specs.Slots.{slot_at}
+use Rattle.state.specs.declared.Slot.{Slot}
+use Rattle.state.specs.Slots.{slot_at, vacant_slot, is_clean}
 use Rattle.maintenance_restore.specs.Pins.{pin_count, pins_clean}
-use Rattle.maintenance_restore.specs.Restore.{restore, restore_pinned, or_else, candidate}
+use Rattle.maintenance_restore.specs.Restore.{restore, and_on, restore_pinned, or_else, candidate}
 use Rattle.basics.specs.Answers.{Fine}
 use Rattle.state.specs.declared.Outcome.{Outcome}
 use Rattle.state.specs.Answers.{After, finished_after}
@@ -45,59 +47,41 @@ pub pinned : (pins : List ℕ) → pin_count pins ≡ count_by (λ p. not (eqb p
 unfolding pin_count
 pinned = is_count_by pin_count (λ p. not (eqb p 0)) refl (λ p pins. one_pin (eqb p 0) (pin_count pins))
 
--- how many of c slots are left: at first all, and one less with each
-pub all_left : (c : ℕ) → c - 0 ≡ c
-all_left c = omega arith
+-- the slots from k on are ss, and the pins are ps
+clean_from : (t : State) (pins : List ℕ) (ss : List Slot) (ps : List ℕ) (k : ℕ) → length ps ≤ length ss
+    → ((i : ℕ) → slot_at t (k + i) ≡ get_or ss i vacant_slot) → ((i : ℕ) → get_or pins (k + i) 0 ≡ get_or ps i 0)
+    → list_all (λ p. eqb p.1 0 || is_clean p.0) (zip ss ps) ≡ pins_clean (length ps) t pins k
+unfolding pins_clean
+clean_from t pins [] [] k l a b = refl
+clean_from t pins (s ∷ ss) [] k l a b = refl
+clean_from t pins [] (p ∷ ps) k l a b = absurd (omega arith)
+clean_from t pins (s ∷ ss) (p ∷ ps) k l a b =
+    let x : slot_at t k ≡ s = ap (λ n. slot_at t n) (omega arith) ∙ a 0 in
+    let y : get_or pins k 0 ≡ p = ap (λ n. get_or pins n 0) (omega arith) ∙ b 0 in
+    rw (x, y, clean_from t pins ss ps (k + 1) (omega arith) (λ i. ap (λ n. slot_at t n) (omega arith) ∙ a (suc i)) (λ i. ap (λ n. get_or pins n 0) (omega arith) ∙ b (suc i))) refl
 
-pub left_suc : (c slot : ℕ) → slot < c → c - slot ≡ suc (c - (slot + 1))
-left_suc c slot l = omega arith
+-- the rule as a test of each slot with its pin
+pub clean_all : (t : State) (pins : List ℕ) (c : ℕ) → c ≤ 256 → length t.slots ≡ 256 → length pins ≡ c
+    → list_all (λ p. eqb p.1 0 || eqb p.0.kind 2) (zip t.slots pins) ≡ pins_clean c t pins 0
+clean_all t pins c l n e =
+    rw (← e) (clean_from t pins t.slots pins 0 (omega arith) (λ i. ap (λ n. slot_at t n) (omega arith)) (λ i. ap (λ n. get_or pins n 0) (omega arith)))
 
-or_yes : (b : Bool) → b || true ≡ true
-or_yes true = refl
-or_yes false = refl
+-- ---- std's next power of two is the rule's
 
-module _ (c : ℕ) (t : State) (pins : List ℕ) (slot : ℕ) where
-  pub clean_free : slot < c → get_or pins slot 0 ≡ 0 → pins_clean (c - slot) t pins slot ≡ pins_clean (c - (slot + 1)) t pins (slot + 1)
-  unfolding pins_clean
-  clean_free l p = rw (left_suc c slot l, eq-eqb (get_or pins slot 0) 0 p)
+pub next_power : (n p : ℕ) → n ≤ 256 → IsPowerOfTwo p → n ≤ p → p / 2 < max 1 n → p ≡ power_over (max n 1)
+next_power n p h (k, e) over half =
+    least_one (record { power = (k, e); over = omega (arith, e, pow_pos k); least = λ j a. rw e (below k j (rw e at half) a) }) (power_least (max n 1) (omega arith))
+  where
+    below : (k j : ℕ) → 2 ^ k / 2 < max 1 n → max n 1 ≤ 2 ^ j → 2 ^ k ≤ 2 ^ j
+    below zero j g a = pow_pos j
+    below (suc k) j g a =
+        elim (is (leb j k)) [
+          | yes! b ↦ let z : 2 ^ j ≤ 2 ^ k = pow_mono (leb-true j k b) in absurd (omega arith)
+          | no! b ↦ pow_mono (leb-false j k b)
+        ]
 
-  pub clean_kept : slot < c → (slot_at t slot).kind ≡ 2 → pins_clean (c - slot) t pins slot ≡ pins_clean (c - (slot + 1)) t pins (slot + 1)
-  unfolding pins_clean
-  clean_kept l k = rw (left_suc c slot l, eq-eqb (slot_at t slot).kind 2 k, or_yes (unpinned pins slot))
-
-  pub clean_lost : slot < c → (get_or pins slot 0 ≡ 0 → ⊥) → ((slot_at t slot).kind ≡ 2 → ⊥) → pins_clean (c - slot) t pins slot ≡ false
-  unfolding pins_clean
-  clean_lost l p k = rw (left_suc c slot l, ne_eqb (get_or pins slot 0) 0 p, ne_eqb (slot_at t slot).kind 2 k)
-
-  pub clean_end : c ≤ slot → pins_clean (c - slot) t pins slot ≡ true
-  unfolding pins_clean
-  clean_end l = let z : c - slot ≡ 0 = omega arith in rw z
-
--- ---- the least power of two, by the bucket count
-
--- the bucket count of a capacity that a table may have
-counted : (n : ℕ) → 0 < n → n ≤ 256 → count_for n ≡ ok (bucket_count n)
-unfolding count_for
-counted n p l = rw (capacity_allowed n p l)
-
-pub power_one : (n : ℕ) {m : ℕ} → n ≤ 256 → refuse m ≡ count_for n → (1 ≡ power_over (max n 1)) × (1 ≤ 256)
-unfolding power_over doubled
-power_one zero l e = (refl, omega arith)
-power_one (suc n) {m = m} l e =
-    let g : refuse m ≡ ok (bucket_count (suc n)) = e ∙ counted (suc n) (omega arith) l in
-    let z : ◌≡◌ {A = ℕ} 0 1 = cc in
-    absurd (omega arith)
-
-pub power_half : (n : ℕ) {b : ℕ} → n ≤ 256 → ok b ≡ count_for n → (b / 2 ≡ power_over (max n 1)) × (b / 2 ≤ 256)
-unfolding count_for need_capacity
-power_half zero {b = b} l e =
-    let z : ◌≡◌ {A = ℕ} 0 1 = cc in
-    absurd (omega arith)
-power_half (suc n) {b = b} l e =
-    let m : b ≡ bucket_count (suc n) = ok_same (e ∙ counted (suc n) (omega arith) l) in
-    let h : bucket_count (suc n) ≡ 2 * power_over (suc n) = count_half (suc n) (omega arith) (omega arith) in
-    let x : max (suc n) 1 ≡ suc n = omega arith in
-    (rw x (omega arith), omega (arith, few_buckets (suc n) l))
+pub next_small : (n p : ℕ) → n ≤ 256 → IsPowerOfTwo p → n ≤ p → p / 2 < max 1 n → p ≤ 256
+next_small n p h b over half = rw (next_power n p h b over half) ((power_least (max n 1) (omega arith)).least 8 (omega arith))
 
 -- ---- a slot that takes a key is one of the table
 pub inserted_low : (c : ℕ) (ix made : Index) (key : CacheKey) (slot : ℕ) → ok made ≡ insert_index c ix key slot → (slot < c) × (c ≤ 256)
@@ -110,36 +94,49 @@ inserted_low c ix made key slot e =
     let g = met (low && free && other) STOP _ made f.1 in
     (ltb-true slot c (and_left low free (and_left (low && free) other g.0)), (has_sizes f.0).small)
 
--- ---- the pinned keys, one slot on, and at the end
-module _ (c : ℕ) (old : State) (pins : List ℕ) (slot : ℕ) (t : State) where
-  pub pinned_not : slot < c → get_or pins slot 0 ≡ 0 → restore_pinned (c - slot) old pins slot t ≡ restore_pinned (c - (slot + 1)) old pins (slot + 1) t
-  unfolding restore_pinned
-  pinned_not l p = rw (left_suc c slot l, eq-eqb (get_or pins slot 0) 0 p)
+-- ---- the pinned keys, slot beside pin
 
-  pub pinned_stops : {n : ℕ} → slot < c → (get_or pins slot 0 ≡ 0 → ⊥) → refuse n ≡ restore t (slot_at old slot).key (slot_at old slot).last_access
-      → restore_pinned (c - slot) old pins slot t ≡ refuse n
-  unfolding restore_pinned
-  pinned_stops l p e = rw (left_suc c slot l, ne_eqb (get_or pins slot 0) 0 p, ← e)
+-- the keys of the slots with a pin are restored into t
+unfoldable pub restored_from : List Slot → List ℕ → State → Try (Option State)
+restored_from [] ps t = ok (some t)
+restored_from (s ∷ ss) [] t = ok (some t)
+restored_from (s ∷ ss) (p ∷ ps) t =
+    if eqb p 0 then restored_from ss ps t else do
+      u ← restore t s.key s.last_access
+      and_on u (λ v. restored_from ss ps v)
 
-  pub pinned_full : slot < c → (get_or pins slot 0 ≡ 0 → ⊥) → ok none ≡ restore t (slot_at old slot).key (slot_at old slot).last_access
-      → restore_pinned (c - slot) old pins slot t ≡ ok none
-  unfolding restore_pinned
-  pinned_full l p e = rw (left_suc c slot l, ne_eqb (get_or pins slot 0) 0 p, ← e)
+pub from_none : (ss : List Slot) (ps : List ℕ) (t : State) → (length ss ≡ 0) ⊎ (length ps ≡ 0) → restored_from ss ps t ≡ ok (some t)
+unfolding restored_from
+from_none [] ps t e = refl
+from_none (s ∷ ss) [] t e = refl
+from_none (s ∷ ss) (p ∷ ps) t (inl e) = absurd (omega arith)
+from_none (s ∷ ss) (p ∷ ps) t (inr e) = absurd (omega arith)
 
-  pub pinned_on : {u : State} → slot < c → (get_or pins slot 0 ≡ 0 → ⊥) → ok (some u) ≡ restore t (slot_at old slot).key (slot_at old slot).last_access
-      → restore_pinned (c - slot) old pins slot t ≡ restore_pinned (c - (slot + 1)) old pins (slot + 1) u
-  unfolding restore_pinned
-  pinned_on l p e = rw (left_suc c slot l, ne_eqb (get_or pins slot 0) 0 p, ← e)
+and_same : (u : Option State) (f g : State → Try (Option State)) → ((v : State) → f v ≡ g v) → and_on u f ≡ and_on u g
+and_same none f g e = refl
+and_same (some v) f g e = e v
 
-pub pinned_end : (c : ℕ) (old : State) (pins : List ℕ) (slot : ℕ) (t : State) → c ≤ slot → restore_pinned (c - slot) old pins slot t ≡ ok (some t)
-unfolding restore_pinned
-pinned_end c old pins slot t l = let z : c - slot ≡ 0 = omega arith in rw z
+-- the slots from k on are ss, and the pins are ps
+pinned_from : (old : State) (pins : List ℕ) (ss : List Slot) (ps : List ℕ) (k : ℕ) (t : State) → length ps ≤ length ss
+    → ((i : ℕ) → slot_at old (k + i) ≡ get_or ss i vacant_slot) → ((i : ℕ) → get_or pins (k + i) 0 ≡ get_or ps i 0)
+    → restored_from ss ps t ≡ restore_pinned (length ps) old pins k t
+unfolding restore_pinned restored_from
+pinned_from old pins [] [] k t l a b = refl
+pinned_from old pins (s ∷ ss) [] k t l a b = refl
+pinned_from old pins [] (p ∷ ps) k t l a b = absurd (omega arith)
+pinned_from old pins (s ∷ ss) (p ∷ ps) k t l a b =
+    let x : slot_at old k ≡ s = ap (λ n. slot_at old n) (omega arith) ∙ a 0 in
+    let y : get_or pins k 0 ≡ p = ap (λ n. get_or pins n 0) (omega arith) ∙ b 0 in
+    let on : (v : State) → restored_from ss ps v ≡ restore_pinned (length ps) old pins (k + 1) v =
+    λ v. pinned_from old pins ss ps (k + 1) v (omega arith) (λ i. ap (λ n. slot_at old n) (omega arith) ∙ a (suc i)) (λ i. ap (λ n. get_or pins n 0) (omega arith) ∙ b (suc i)) in
+    rw (x, y, on t, bind_same (restore t s.key s.last_access) _ _ (λ u g. and_same u _ _ on)) refl
+
+pub pinned_all : (old : State) (pins : List ℕ) (t : State) (c : ℕ) → c ≤ 256 → length old.slots ≡ 256 → length pins ≡ c
+    → restored_from old.slots pins t ≡ restore_pinned c old pins 0 t
+pinned_all old pins t c l n e =
+    rw (← e) (pinned_from old pins old.slots pins 0 t (omega arith) (λ i. ap (λ n. slot_at old n) (omega arith)) (λ i. ap (λ n. get_or pins n 0) (omega arith)))
 
 -- ---- the capacity that takes the pinned keys
-
-and_no : (b : Bool) → b && false ≡ false
-and_no true = refl
-and_no false = refl
 
 candidate_step : (k i : ℕ) (old : State) (pins : List ℕ) (shrinking : Bool) (c : ℕ) → i < k
     → candidate (k - i) old pins shrinking c
@@ -150,7 +147,7 @@ candidate_step k i old pins shrinking c l = rw (left_suc k i l)
 module _ (k i : ℕ) (old : State) (pins : List ℕ) (shrinking : Bool) (c : ℕ) where
   pub candidate_end : k ≤ i → candidate (k - i) old pins shrinking c ≡ ok none
   unfolding candidate
-  candidate_end l = let z : k - i ≡ 0 = omega arith in rw z
+  candidate_end l = rw (left_none k i l)
 
   pub candidate_fits : {t : State} → i < k → ok (some t) ≡ restore_pinned old.capacity old pins 0 (fresh c) → candidate (k - i) old pins shrinking c ≡ ok (some t)
   candidate_fits l p = candidate_step k i old pins shrinking c l ∙ rw (← p)
@@ -162,7 +159,7 @@ module _ (k i : ℕ) (old : State) (pins : List ℕ) (shrinking : Bool) (c : ℕ
   candidate_ends l p s = candidate_step k i old pins shrinking c l ∙ rw (← p, s)
 
   pub candidate_half : i < k → ok none ≡ restore_pinned old.capacity old pins 0 (fresh c) → old.capacity / 2 ≤ c → candidate (k - i) old pins shrinking c ≡ ok none
-  candidate_half l p h = candidate_step k i old pins shrinking c l ∙ rw (← p, le-ltb c (old.capacity / 2) h, and_no shrinking)
+  candidate_half l p h = candidate_step k i old pins shrinking c l ∙ rw (← p, le-ltb c (old.capacity / 2) h, and-false shrinking)
 
   pub candidate_twice : i < k → ok none ≡ restore_pinned old.capacity old pins 0 (fresh c) → shrinking ≡ true → c < old.capacity / 2
       → candidate (k - i) old pins shrinking c ≡ candidate (k - (i + 1)) old pins shrinking (c * 2)

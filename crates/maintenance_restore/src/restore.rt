@@ -3,59 +3,54 @@
 // Ported from src/fs/cache/maintenance.rs of HypeR-Proj/kernel at 53afd06a1d, changed; see NOTICE.
 
 // maintenance.rs, keys put into a new table: `restore_clean`, and the table with the pinned keys.
-ghost use Rattle.std.specs.Prelude.{◌≡◌, ◌≤◌, ◌<◌, length};
+ghost use Rattle.std.specs.Prelude.{◌≡◌, ◌≤◌, ◌<◌, false, length, MatchResult};
 ghost use Rattle.state.specs.Fresh.{fresh};
-ghost use Rattle.maintenance_restore.specs.Answers.{restored_answer};
+ghost use Rattle.maintenance_restore.specs.Answers.{restored, restored_answer};
 ghost use Rattle.maintenance_restore.specs.Restore.{restore as restore_rule, restore_pinned, candidate as candidate_rule};
 
 use basics::Refusal;
 use key::CacheKey;
 use state::{Slot, State};
 
-// The Rust's `restore_clean`: the table with the key, or none where it has no room.
+// The Rust's `restore_clean`, in place: whether the table had room for the key. Where not, and where it refuses, the table is as it came.
 #[tactic(auto, using(basics::proofs::Tests::tests, crate::proofs::Cases::inserted_low), unfolding(crate::specs::Restore::restore, crate::specs::Restore::restore_into))]
-pub fn restore(mut t: State, key: CacheKey, last_access: u64) -> Result<Option<State>, Refusal>
-    ensures { restored_answer result ≡ restore_rule t key last_access }
+pub fn restore(t: &mut State, key: CacheKey, last_access: u64) -> Result<bool, Refusal>
+    ensures value { restored t.new result ≡ restore_rule t.old key last_access }
+    ensures kept { MatchResult result (λ room. room ≡ false → t.new ≡ t.old) (λ _. t.new ≡ t.old) }
 {
     if !index_chains::can_insert(&t.index, t.capacity, key)? {
-        return Ok(None);
+        return Ok(false);
     }
     let Some(slot) = t.index.vacant(t.capacity)? else {
-        return Ok(None);
+        return Ok(false);
     };
     let rest = t.index.take_vacant(t.capacity, slot)?;
-    t.index = index_chains::insert(rest, t.capacity, key, slot)?;
-    t.eviction = eviction_sift::insert(t.eviction, t.capacity, slot, last_access)?;
-    if t.clean == basics::MAX_COUNT {
-        return Err(Refusal::Stop);
-    }
-    t.clean += 1;
+    let index = index_chains::insert(rest, t.capacity, key, slot)?;
+    let heap = eviction_sift::insert(t.eviction, t.capacity, slot, last_access)?;
+    t.clean = t.clean.checked_add(1).ok_or(Refusal::Stop)?;
+    t.index = index;
+    t.eviction = heap;
     t.slots[slot] = Slot {
         kind: state::CLEAN,
         key,
         generation: 0,
         last_access,
     };
-    Ok(Some(t))
+    Ok(true)
 }
 
-// The pinned keys of the old table are restored into `fresh`, in old slot order.
-#[tactic(auto, using(crate::proofs::Cases::pinned_not, crate::proofs::Cases::pinned_stops, crate::proofs::Cases::pinned_full, crate::proofs::Cases::pinned_on, crate::proofs::Cases::pinned_end))]
-fn restore_pinned(old: &State, pins: &[u8], fresh: State) -> Result<Option<State>, Refusal>
+// The pinned keys of the old table are restored into `new`, in old slot order.
+#[tactic(auto, using(basics::proofs::Tests::tests, crate::proofs::Cases::pinned_all), unfolding(crate::proofs::Cases::restored_from))]
+fn restore_pinned(old: &State, pins: &[u8], new: &mut State) -> Result<bool, Refusal>
     requires { (old.now.capacity ≤ 256) × (length pins.now ≡ old.now.capacity) }
-    ensures { restored_answer result ≡ restore_pinned old.now.capacity old.now pins.now 0 fresh }
+    ensures { restored new.new result ≡ restore_pinned old.now.capacity old.now pins.now 0 new.old }
 {
-    let mut new = fresh;
-    for slot in 0..old.capacity {
-        if pins[slot] != 0 {
-            let entry = old.slots[slot];
-            let Some(grown) = restore(new, entry.key, entry.last_access)? else {
-                return Ok(None);
-            };
-            new = grown;
+    for (entry, pin) in old.slots.iter().zip(pins) {
+        if *pin != 0 && !restore(new, entry.key, entry.last_access)? {
+            return Ok(false);
         }
     }
-    Ok(Some(new))
+    Ok(true)
 }
 
 // A new table, of a capacity that a table may have.
@@ -83,8 +78,9 @@ pub fn candidate(
     ensures { restored_answer result ≡ candidate_rule 9 old.now pins.now shrinking capacity }
 {
     let mut size = capacity;
-    for round in 0..ROUNDS {
-        if let Some(new) = restore_pinned(old, pins, fresh(size))? {
+    for _ in 0..ROUNDS {
+        let mut new = fresh(size);
+        if restore_pinned(old, pins, &mut new)? {
             return Ok(Some(new));
         }
         if !shrinking || old.capacity / 2 <= size {

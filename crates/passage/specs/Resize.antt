@@ -1,15 +1,16 @@
 -- SPDX-License-Identifier: Apache-2.0
 -- Resize through the gate.
-use Rattle.std.specs.Prelude.{ℕ, Bool, true, false, List, ltb, eqb, length, if◌then◌else◌}
-use Rattle.basics.specs.Try.{Try, ok, refuse, ◌>>◌, need}
+use Rattle.std.specs.Prelude.{true, false, ℕ, List, ltb, eqb, length, if◌then◌else◌}
+use Rattle.basics.specs.Try.{Try, ok, refuse}
 use Rattle.basics.specs.Answers.{Fine, done}
-use Rattle.basics.specs.Refusals.{STOP, PINS, LIST, EXHAUSTED}
+use Rattle.basics.specs.Refusals.{EXHAUSTED}
 use Rattle.basics.specs.Numbers.{MAX}
-use Rattle.basics.specs.Capacity.{need_capacity}
 use Rattle.state.specs.declared.State.{State}
-use Rattle.state.specs.Fresh.{sound}
-use Rattle.maintenance_resize.specs.Answers.{Size, unchanged, busy_now, resized, Resizing, size_answer}
+use Rattle.maintenance_resize.specs.Answers.{Size, unchanged, busy_now, resized, Resizing, maintained_after}
 use Rattle.maintenance_resize.specs.Resize.{resize}
+-- the tests of the input, which are resize's own: the crates above name them from here
+pub use Rattle.maintenance_resize.specs.Resize.{need_input}
+unfoldable pub use Rattle.maintenance_resize.specs.Resize.{need_input_of}
 use Rattle.gate.specs.declared.Gate.{Gate}
 use Rattle.passage.specs.declared.Passed.{Passed}
 use Rattle.gate.specs.Gate.{stops, marked, counted}
@@ -24,19 +25,7 @@ passing_of r g = record { resizing = r; gate = g }
 
 -- what the code hands back, read so; `list` is what the lent list holds afterwards
 abbrev pub passed_after : Passed → List ℕ → Passing
-passed_after r list = passing_of (record { table = r.state; answer = size_answer r.answer; list = list }) r.gate
-
--- "The gate stands after 10's first test and 1 to 5.": those tests of resize, with so many pin bytes and places of the list
-unfoldable pub need_input_of : ℕ → Bool → ℕ → ℕ → ℕ → Try Fine
-need_input_of capacity sound? asked pins list = do
-  need sound? STOP
-  need_capacity asked
-  need (eqb pins capacity) PINS
-  need (eqb list capacity) LIST
-  ok done
-
-abbrev pub need_input : State → ℕ → ℕ → ℕ → Try Fine
-need_input t asked pins list = need_input_of t.capacity (sound t) asked pins list
+passed_after r list = passing_of (maintained_after r.outcome list) r.gate
 
 -- the gate by the answer of an attempt: "Every other attempt adds 1 to the generation, undone if 8 or 10 refuses it later"; "Resized and Unchanged
 -- clear it, a later Busy leaves it"
@@ -54,7 +43,7 @@ attempt_rule t g asked pins list = passing_of (resize t asked pins list) (attemp
 abbrev pub stays : State → List ℕ → Try Size → Gate → Passing
 stays t list a g = passing_of (record { table = t; answer = a; list = list }) g
 
--- past those tests
+-- past the tests of the input
 unfoldable pub pass_steps : State → Gate → ℕ → List ℕ → List ℕ → Passing
 pass_steps t g asked pins list =
     -- "Resize with a pause or a dirty page is Busy and changes nothing."

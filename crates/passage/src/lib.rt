@@ -7,12 +7,11 @@
 
 ghost use Rattle.std.specs.Prelude.{◌≡◌, ◌<◌};
 ghost use Rattle.basics.specs.Numbers.{MAX};
-ghost use Rattle.basics.specs.Answers.{done_answer};
 ghost use Rattle.state.specs.Answers.{accessed_after};
 ghost use Rattle.maintenance_resize.specs.Answers.{size_answer};
 ghost use Rattle.gate.specs.Gate.{marked};
 ghost use Rattle.passage.specs.Access.{access_through};
-ghost use Rattle.passage.specs.Resize.{passed_after, need_input, attempted as attempted_rule, attempt_rule, resize_through};
+ghost use Rattle.passage.specs.Resize.{passed_after, attempted as attempted_rule, attempt_rule, resize_through};
 
 use basics::Refusal;
 use gate::Gate;
@@ -20,12 +19,11 @@ use key::CacheKey;
 use maintenance_resize::Maintenance;
 use state::{Access, Outcome, State};
 
-// Table and gate after resize.
+// What resize hands back, and the gate after it. The outcome stands first, as the table does in it.
 #[derive(Clone, Copy)]
 pub struct Passed {
-    pub state: State,
+    pub outcome: Outcome<Maintenance>,
     pub gate: Gate,
-    pub answer: Result<Maintenance, Refusal>,
 }
 
 // Access through the gate, which it leaves as it was.
@@ -34,22 +32,6 @@ pub fn access(t: State, gate: Gate, key: CacheKey, allow_load: bool, pins: &[u8]
     ensures { accessed_after result ≡ access_through t gate key allow_load pins.now }
 {
     state_access::access(t, key, gate.admits(allow_load), pins)
-}
-
-// The first test of resize, and 1 to 4.
-#[tactic(auto, using(basics::proofs::Tests::tests), unfolding(crate::specs::Resize::need_input_of))]
-fn check_input(t: &State, asked: usize, pins: usize, list: usize) -> Result<(), Refusal>
-    ensures { done_answer result ≡ need_input t.now asked pins list }
-{
-    t.check_sound()?;
-    basics::check_capacity(asked)?;
-    if pins != t.capacity {
-        return Err(Refusal::Pins);
-    }
-    if list != t.capacity {
-        return Err(Refusal::List);
-    }
-    Ok(())
 }
 
 // The gate by the answer of an attempt.
@@ -78,22 +60,20 @@ fn attempt(t: State, gate: Gate, asked: usize, pins: &[u8], list: &mut [u16]) ->
     requires { gate.generation < MAX }
     ensures { passed_after result list.new ≡ attempt_rule t gate asked pins.now list.old }
 {
-    let done = maintenance_resize::resize(t, asked, pins, list);
+    let outcome = maintenance_resize::resize(t, asked, pins, list);
     Passed {
-        state: done.state,
-        gate: attempted(gate, done.answer),
-        answer: done.answer,
+        outcome,
+        gate: attempted(gate, outcome.answer),
     }
 }
 
 // The table stays, and the gate has this mark.
 fn held(t: State, gate: Gate, pending: bool, answer: Result<Maintenance, Refusal>) -> Passed
-    ensures { result ≡ record { state = t; gate = marked pending gate; answer = answer } }
+    ensures { result ≡ record { outcome = record { state = t; answer = answer }; gate = marked pending gate } }
 {
     Passed {
-        state: t,
+        outcome: Outcome { state: t, answer },
         gate: Gate { pending, ..gate },
-        answer,
     }
 }
 
@@ -102,7 +82,7 @@ fn held(t: State, gate: Gate, pending: bool, answer: Result<Maintenance, Refusal
 pub fn resize(t: State, gate: Gate, asked: usize, pins: &[u8], list: &mut [u16]) -> Passed
     ensures { passed_after result list.new ≡ resize_through t gate asked pins.now list.old }
 {
-    if let Err(why) = check_input(&t, asked, pins.len(), list.len()) {
+    if let Err(why) = maintenance_resize::check_input(&t, asked, pins.len(), list.len()) {
         return held(t, gate, gate.pending, Err(why));
     }
     if gate.pauses != 0 || gate.dirty != 0 {

@@ -14,6 +14,7 @@ use Rattle.std.proofs.lemmas.List.Recursion.{is_count_by}
 use borrow.Author.Tests.{leb-true, leb-false}
 use lib.Dec.{leb}
 use Rattle.basics.proofs.Tests.{is, yes!, no! }
+use Rattle.picture_numbers.specs.declared.Page.{Page}
 use Rattle.picture_numbers.specs.Wrote.{Wrote}
 use Rattle.picture_numbers.specs.Numbers.{spaced, word_numbers, all_zero, placed, told, held, below, past}
 use Rattle.picture_numbers.proofs.Laws.{wrote_as, numbers_joined, no_numbers}
@@ -33,12 +34,12 @@ flip true h = omega arith
 flip false h = refl
 
 -- nothing is told of a place that is 0, and of another its number too
-pub placed_none : (l : List ℕ) (i j number : ℕ) (ns : List ℕ) → j ≡ min i (length l) → all_zero ns ≡ true → Wrote l i (spaced (placed false number ns)) j l
+pub placed_none : {p q : Page} (number : ℕ) (ns : List ℕ) → all_zero ns ≡ true → Wrote p [] q → Wrote p (spaced (placed false number ns)) q
 unfolding placed
-placed_none l i j number ns e z = rw z (no_numbers l i j e)
+placed_none number ns z w = rw z (no_numbers w)
 
-pub placed_some : {l m k : List ℕ} {i j n : ℕ} (number : ℕ) (ns : List ℕ) → all_zero ns ≡ false
-    → Wrote l i (spaced (number ∷ [])) j m → Wrote m j (spaced ns) n k → Wrote l i (spaced (placed false number ns)) n k
+pub placed_some : {p q r : Page} (number : ℕ) (ns : List ℕ) → all_zero ns ≡ false
+    → Wrote p (spaced (number ∷ [])) q → Wrote q (spaced ns) r → Wrote p (spaced (placed false number ns)) r
 unfolding placed
 placed_some number ns z v w = rw z (numbers_joined (number ∷ []) ns v w)
 
@@ -77,33 +78,34 @@ module _ {A : Type 0} (f : A → List ℕ) where
       rw (k, e) (ap (λ r. placed bare from (f x) ++ r) (told_more bare (suc from) l i d (omega arith))
       ∙ sym (append_assoc (placed bare from (f x)) (told f bare (suc from) (take i l)) (placed bare (suc from + i) (f (get_or l i d)))))
 
-  module _ {before m : List ℕ} {at j : ℕ} where
-    -- the next place, behind those before it
-    pub place_more : {k : List ℕ} {p : ℕ} (bare : Bool) (from : ℕ) (xs : List A) (i : ℕ) (x : A) → i < length xs → x ≡ get_or xs i x
-        → Wrote before at (spaced (told f bare from (take i xs))) j m → Wrote m j (spaced (placed bare (from + i) (f x))) p k
-        → Wrote before at (spaced (told f bare from (take (i + 1) xs))) p k
-    place_more bare from xs i x h e v w =
-        let g : told f bare from (take i xs) ++ placed bare (from + i) (f x) ≡ told f bare from (take (i + 1) xs) =
-        ap (λ y. told f bare from (take i xs) ++ placed bare (from + i) (f y)) e ∙ sym (told_more bare from xs i x h) in
-        wrote_as (ap spaced g) (numbers_joined (told f bare from (take i xs)) (placed bare (from + i) (f x)) v w)
+  -- the next place, behind those before it and what is before them
+  pub place_more : {p q r : Page} (ns : List ℕ) (bare : Bool) (from : ℕ) (xs : List A) (i : ℕ) (x : A) → i < length xs → x ≡ get_or xs i x
+      → Wrote p (spaced (ns ++ told f bare from (take i xs))) q → Wrote q (spaced (placed bare (from + i) (f x))) r
+      → Wrote p (spaced (ns ++ told f bare from (take (i + 1) xs))) r
+  place_more ns bare from xs i x h e v w =
+      let so_far = told f bare from (take i xs) in
+      let one = placed bare (from + i) (f x) in
+      let g : so_far ++ one ≡ told f bare from (take (i + 1) xs) =
+      ap (λ y. so_far ++ placed bare (from + i) (f y)) e ∙ sym (told_more bare from xs i x h) in
+      wrote_as (ap spaced (append_assoc ns so_far one ∙ ap (λ l. ns ++ l) g)) (numbers_joined (ns ++ so_far) one v w)
 
-    pub below_more : {k : List ℕ} {p : ℕ} (xs : List A) (i : ℕ) (x : A) → i < length xs → x ≡ get_or xs i x
-        → Wrote before at (spaced (below f i xs)) j m → Wrote m j (spaced (f x)) p k → Wrote before at (spaced (below f (i + 1) xs)) p k
-    unfolding below placed
-    below_more xs i x h e v w = place_more true 0 xs i x h e v w
+  pub below_more : {p q r : Page} (xs : List A) (i : ℕ) (x : A) → i < length xs → x ≡ get_or xs i x
+      → Wrote p (spaced (below f i xs)) q → Wrote q (spaced (f x)) r → Wrote p (spaced (below f (i + 1) xs)) r
+  unfolding below placed
+  below_more xs i x h e v w = place_more [] true 0 xs i x h e v w
 
   -- the ends
-  pub below_start : (l : List ℕ) (i j : ℕ) (xs : List A) → j ≡ min i (length l) → Wrote l i (spaced (below f 0 xs)) j l
+  pub below_start : {p q : Page} (xs : List A) → Wrote p [] q → Wrote p (spaced (below f 0 xs)) q
   unfolding below told
-  below_start l i j xs e = no_numbers l i j e
+  below_start xs w = no_numbers w
 
   pub below_end : (xs : List A) (n places i : ℕ) → places ≡ min n (length xs) → length (take places xs) ≤ i → below f i (take places xs) ≡ below f n xs
   unfolding below
   below_end xs n places i e h = ap (told f true 0) (take_all i (take places xs) h ∙ rw e (take_cut n xs))
 
-  pub told_start : (l : List ℕ) (i j from : ℕ) → j ≡ min i (length l) → Wrote l i (spaced (told f false from [])) j l
+  pub told_start : {p q : Page} (ns : List ℕ) (from : ℕ) → Wrote p (spaced ns) q → Wrote p (spaced (ns ++ told f false from [])) q
   unfolding told
-  told_start l i j from e = no_numbers l i j e
+  told_start ns from w = wrote_as (ap spaced (sym (append-nil ns))) w
 
   -- the first place does not matter where there is none
   told_cut : (n : ℕ) (xs : List A) → told f false (min n (length xs)) (drop n xs) ≡ told f false n (drop n xs)

@@ -1,6 +1,5 @@
 // SPDX-License-Identifier: Apache-2.0
-// Tables in plain numbers, as oracle/README.md has them: what the programs `trace`, `made_up` and `gate_trace` share. As in `picture_numbers`, every
-// function writes from a place of `out` on and answers the place behind what it wrote, which is always within `out`.
+// Tables in plain numbers, as oracle/README.md has them: what the programs `trace`, `made_up` and `gate_trace` share.
 #![tactic(auto)]
 
 ghost use Rattle.std.specs.Prelude.{◌≡◌, ℕ, false, not, List, take};
@@ -10,7 +9,7 @@ ghost use Rattle.picture.specs.Table.{slot_numbers, entry_numbers, index_numbers
 
 use eviction::{Entry, EvictionHeap};
 use index::Index;
-use picture_numbers::{all_zero, put, put_numbers};
+use picture_numbers::{Page, all_zero};
 use state::{Slot, State};
 
 // What a list that is told is made of.
@@ -21,8 +20,20 @@ pub trait Place {
     fn is_zero(&self) -> bool
         ensures { result ≡ all_zero (stand self.now) };
 
-    fn put(&self, out: &mut [u8], at: usize) -> usize
-        ensures { Wrote out.old at (spaced (stand self.now)) result out.new };
+    fn put(&self, page: &mut Page)
+        ensures { Wrote page.old (spaced (stand self.now)) page.new };
+}
+
+impl Place for u8 {
+    ghost stand = { word_numbers };
+
+    fn is_zero(&self) -> bool {
+        u16::from(*self).is_zero()
+    }
+
+    fn put(&self, page: &mut Page) {
+        u16::from(*self).put(page);
+    }
 }
 
 impl Place for u16 {
@@ -32,8 +43,8 @@ impl Place for u16 {
         all_zero(&[u64::from(*self)])
     }
 
-    fn put(&self, out: &mut [u8], at: usize) -> usize {
-        put(out, at, u64::from(*self))
+    fn put(&self, page: &mut Page) {
+        page.put_numbers(&[u64::from(*self)]);
     }
 }
 
@@ -50,8 +61,8 @@ impl Place for Entry {
         all_zero(&entry_numbers(self))
     }
 
-    fn put(&self, out: &mut [u8], at: usize) -> usize {
-        put_numbers(out, at, &entry_numbers(self))
+    fn put(&self, page: &mut Page) {
+        page.put_numbers(&entry_numbers(self));
     }
 }
 
@@ -75,37 +86,39 @@ impl Place for Slot {
         all_zero(&slot_numbers(self))
     }
 
-    fn put(&self, out: &mut [u8], at: usize) -> usize {
-        put_numbers(out, at, &slot_numbers(self))
+    fn put(&self, page: &mut Page) {
+        page.put_numbers(&slot_numbers(self));
     }
 }
 
 // The first places of a list, `count` of them.
-fn put_list<T: Place>(out: &mut [u8], at: usize, list: &[T], count: usize) -> usize
-    ensures { Wrote out.old at (spaced (below T.stand count list.now)) result out.new }
+pub fn put_list<T: Place>(page: &mut Page, list: &[T], count: usize)
+    ensures { Wrote page.old (spaced (below T.stand count list.now)) page.new }
 {
     let places = count.min(list.len());
-    let mut to = at.min(out.len());
+    // A place past the end is taken for the end with no places too.
+    page.put_text(b"");
     for place in &list[..places] {
-        to = place.put(out, to);
+        place.put(page);
     }
-    to
 }
 
 // What stands at a place behind the place's number; nothing where it is 0.
-fn put_place<T: Place>(out: &mut [u8], at: usize, number: usize, place: &T) -> usize
-    ensures { Wrote out.old at (spaced (placed false number (T.stand place.now))) result out.new }
+fn put_place<T: Place>(page: &mut Page, number: usize, place: &T)
+    ensures { Wrote page.old (spaced (placed false number (T.stand place.now))) page.new }
 {
     if place.is_zero() {
-        return at.min(out.len());
+        // A place past the end is taken for the end here too.
+        page.put_text(b"");
+        return;
     }
-    let a = put(out, at, number as u64);
-    place.put(out, a)
+    page.put(number);
+    place.put(page);
 }
 
 // Those past a length that are not 0: how many they are, and each behind its place.
-pub fn put_list_past<T: Place>(out: &mut [u8], at: usize, list: &[T], length: usize) -> usize
-    ensures { Wrote out.old at (spaced (past T.stand length list.now)) result out.new }
+pub fn put_list_past<T: Place>(page: &mut Page, list: &[T], length: usize)
+    ensures { Wrote page.old (spaced (past T.stand length list.now)) page.new }
 {
     let from = length.min(list.len());
     let behind = &list[from..];
@@ -117,49 +130,48 @@ pub fn put_list_past<T: Place>(out: &mut [u8], at: usize, list: &[T], length: us
             { !place.is_zero() },
         )
         .count();
-    let mut to = put(out, at, held as u64);
+    page.put(held);
     for (i, place) in behind.iter().enumerate() {
-        to = put_place(out, to, from + i, place);
+        put_place(page, from + i, place);
     }
-    to
 }
 
 // The first words of a list, `count` of them.
 #[tactic(auto, using(picture_numbers::proofs::Laws::wrote_as, crate::proofs::Laws::below_words))]
-pub fn put_words(out: &mut [u8], at: usize, list: &[u16], count: usize) -> usize
-    ensures { Wrote out.old at (spaced (take count list.now)) result out.new }
+pub fn put_words(page: &mut Page, list: &[u16], count: usize)
+    ensures { Wrote page.old (spaced (take count list.now)) page.new }
 {
-    put_list(out, at, list, count)
+    put_list(page, list, count);
 }
 
 // Bucket count, heads, next, and the free stack.
-fn put_index(out: &mut [u8], at: usize, index: &Index, capacity: usize) -> usize
-    ensures { Wrote out.old at (spaced (index_numbers index.now capacity)) result out.new }
+fn put_index(page: &mut Page, index: &Index, capacity: usize)
+    ensures { Wrote page.old (spaced (index_numbers index.now capacity)) page.new }
 {
-    let a = put(out, at, index.buckets as u64);
-    let b = put_words(out, a, &index.heads, index.buckets);
-    let c = put_words(out, b, &index.next, capacity);
-    let d = put(out, c, index.free_len as u64);
-    put_words(out, d, &index.free, index.free_len)
+    page.put(index.buckets);
+    put_words(page, &index.heads, index.buckets);
+    put_words(page, &index.next, capacity);
+    page.put(index.free_len);
+    put_words(page, &index.free, index.free_len);
 }
 
 // The heap: its length, slot and last use of each place, and the places.
-fn put_heap(out: &mut [u8], at: usize, heap: &EvictionHeap, capacity: usize) -> usize
-    ensures { Wrote out.old at (spaced (heap_numbers heap.now capacity)) result out.new }
+fn put_heap(page: &mut Page, heap: &EvictionHeap, capacity: usize)
+    ensures { Wrote page.old (spaced (heap_numbers heap.now capacity)) page.new }
 {
-    let a = put(out, at, heap.len as u64);
-    let b = put_list(out, a, &heap.entries, heap.len);
-    put_words(out, b, &heap.positions, capacity)
+    page.put(heap.len);
+    put_list(page, &heap.entries, heap.len);
+    put_words(page, &heap.positions, capacity);
 }
 
 // A table: 2 to 9 of the trace.
-pub fn put_table(out: &mut [u8], at: usize, t: &State) -> usize
-    ensures { Wrote out.old at (spaced (table_numbers t.now)) result out.new }
+pub fn put_table(page: &mut Page, t: &State)
+    ensures { Wrote page.old (spaced (table_numbers t.now)) page.new }
 {
-    let numbers: [u64; 10] = [
-        t.capacity as u64,
-        t.clean as u64,
-        t.loading as u64,
+    page.put(t.capacity);
+    page.put(t.clean);
+    page.put(t.loading);
+    page.put_numbers(&[
         t.counters.hits,
         t.counters.misses,
         t.counters.evictions,
@@ -167,35 +179,34 @@ pub fn put_table(out: &mut [u8], at: usize, t: &State) -> usize
         t.counters.capacity_busy,
         t.next_load_generation,
         t.next_access_sequence,
-    ];
-    let a = put_numbers(out, at, &numbers);
-    let b = put_list(out, a, &t.slots, t.capacity);
-    let c = put_index(out, b, &t.index, t.capacity);
-    put_heap(out, c, &t.eviction, t.capacity)
+    ]);
+    put_list(page, &t.slots, t.capacity);
+    put_index(page, &t.index, t.capacity);
+    put_heap(page, &t.eviction, t.capacity);
 }
 
 // Of the index what stands past the lengths and is not 0.
-fn put_index_past(out: &mut [u8], at: usize, index: &Index, capacity: usize) -> usize
-    ensures { Wrote out.old at (spaced (index_past index.now capacity)) result out.new }
+fn put_index_past(page: &mut Page, index: &Index, capacity: usize)
+    ensures { Wrote page.old (spaced (index_past index.now capacity)) page.new }
 {
-    let a = put_list_past(out, at, &index.heads, index.buckets);
-    let b = put_list_past(out, a, &index.next, capacity);
-    put_list_past(out, b, &index.free, index.free_len)
+    put_list_past(page, &index.heads, index.buckets);
+    put_list_past(page, &index.next, capacity);
+    put_list_past(page, &index.free, index.free_len);
 }
 
 // Of the heap.
-fn put_heap_past(out: &mut [u8], at: usize, heap: &EvictionHeap, capacity: usize) -> usize
-    ensures { Wrote out.old at (spaced (heap_past heap.now capacity)) result out.new }
+fn put_heap_past(page: &mut Page, heap: &EvictionHeap, capacity: usize)
+    ensures { Wrote page.old (spaced (heap_past heap.now capacity)) page.new }
 {
-    let a = put_list_past(out, at, &heap.entries, heap.len);
-    put_list_past(out, a, &heap.positions, capacity)
+    put_list_past(page, &heap.entries, heap.len);
+    put_list_past(page, &heap.positions, capacity);
 }
 
 // Of a table: 11 of the trace, without the pins.
-pub fn put_past(out: &mut [u8], at: usize, t: &State) -> usize
-    ensures { Wrote out.old at (spaced (past_numbers t.now)) result out.new }
+pub fn put_past(page: &mut Page, t: &State)
+    ensures { Wrote page.old (spaced (past_numbers t.now)) page.new }
 {
-    let a = put_list_past(out, at, &t.slots, t.capacity);
-    let b = put_index_past(out, a, &t.index, t.capacity);
-    put_heap_past(out, b, &t.eviction, t.capacity)
+    put_list_past(page, &t.slots, t.capacity);
+    put_index_past(page, &t.index, t.capacity);
+    put_heap_past(page, &t.eviction, t.capacity);
 }

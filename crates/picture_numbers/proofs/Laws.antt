@@ -1,7 +1,7 @@
 -- SPDX-License-Identifier: Apache-2.0
 -- Laws of what is written: two writings are one of both texts, nothing, as much of a text as there is room for; and the steps of the rules
 -- over a list. Assumes nothing.
-use Prim.Native.Nat.{ℕ, suc, ◌+◌, ◌-◌, ◌≤◌, ◌<◌, min}
+use Prim.Native.Nat.{ℕ, suc, ◌+◌, ◌-◌, ◌≤◌, ◌<◌, ◌^◌, min}
 use native.Mathlib.Omega.{arith}
 use native.Mathlib.Nat.{add-zero}
 use mathlib.Core.Path.{◌≡◌, refl, sym, ◌∙◌, ap}
@@ -11,13 +11,17 @@ use lib.Dec.{leb, eqb}
 use lib.ListN.{length, take, drop, set, get_or, length-append}
 use lib.Seq.{sets, sets-eq, set_out, length-sets, length-take-le, take_all}
 use borrow.Author.Tests.{leb-true, leb-false}
+use borrow.Rule.Slice.Mut.{set_vals}
 use borrow.Rule.Slice.PartMut.{put_mid}
+use Rattle.std.specs.Fmt.{decimal as std_decimal}
 use Rattle.std.specs.List.{list_all}
+use Rattle.sheet_lines.proofs.Bytes.{decimal_same}
 use Rattle.std.proofs.lemmas.List.{take-append-drop, take_more}
 use Rattle.std.proofs.lemmas.Slice.{put_mid-paste}
 use Rattle.basics.specs.Lists.{every}
 use Rattle.basics.proofs.Tests.{is, yes!, no! }
 use Rattle.sheet_lines.specs.Text.{decimal, SPACE}
+use Rattle.picture_numbers.specs.declared.Page.{Page}
 use Rattle.picture_numbers.specs.Wrote.{Wrote}
 use Rattle.picture_numbers.specs.Numbers.{spaced, all_zero}
 
@@ -55,36 +59,36 @@ sets_cut l vs i n h e =
 
 -- ---- writings
 -- two writings, the second behind the first, are one of both texts
-pub joined : {l m k a b : List ℕ} {i j n : ℕ} → Wrote l i a j m → Wrote m j b n k → Wrote l i (a ++ b) n k
-joined {l} {m} {k} {a} {b} {i} {j} {n} v w =
+pub joined : {p q r : Page} {a b : List ℕ} → Wrote p a q → Wrote q b r → Wrote p (a ++ b) r
+joined {p} {q} {r} {a} {b} v w =
     record {
       bytes =
-          w.bytes ∙ ap (λ p. sets m p b) v.place ∙ sets_least m (i + length a) (length l) b v.size
-          ∙ ap (λ x. sets x (i + length a) b) v.bytes ∙ sym (sets_append l i a b);
+          w.bytes ∙ ap (λ i. sets q.bytes.now i b) v.place ∙ sets_least q.bytes.now (p.at + length a) (length p.bytes.now) b v.size
+          ∙ ap (λ x. sets x (p.at + length a) b) v.bytes ∙ sym (sets_append p.bytes.now p.at a b);
       place = rw (length-append a b) (omega (arith, v.place, w.place, v.size));
       size = w.size ∙ v.size;
+      same_reference = w.same_reference ∙ v.same_reference;
     }
 
 -- the same text under another name
-pub wrote_as : {l m a b : List ℕ} {i j : ℕ} → a ≡ b → Wrote l i a j m → Wrote l i b j m
-wrote_as {l} {m} {a} {b} {i} {j} e w = rw e at w
-
--- nothing
-pub nothing : (l : List ℕ) (i j : ℕ) → j ≡ min i (length l) → Wrote l i [] j l
-nothing l i j h = record { bytes = refl; place = omega arith; size = refl }
+pub wrote_as : {p q : Page} {a b : List ℕ} → a ≡ b → Wrote p a q → Wrote p b q
+wrote_as e w = rw e at w
 
 -- as much of a text as there is room for
-pub stored : (l text part : List ℕ) (i from n : ℕ) → from ≡ min i (length l) → n ≡ min (length text) (length l - from) → part ≡ take n text
-    → Wrote l i text (from + n) (put_mid from (from + n - from) l part)
-stored l text part i from n e g p =
+pub stored : (p : Page) (text part : List ℕ) (from n : ℕ) → from ≡ min p.at (length p.bytes.now)
+    → n ≡ min (length text) (length p.bytes.now - from) → part ≡ take n text
+    → Wrote p text (record { bytes = set_vals (put_mid from (from + n - from) p.bytes.now part) p.bytes; at = from + n })
+stored p text part from n e g w =
+    let l = p.bytes.now in
+    let i = p.at in
     let front : length (take n text) ≡ n = length-take-le n text (omega arith) in
     let bytes : put_mid from (from + n - from) l part ≡ sets l i text =
-    put_mid-paste from (from + n - from) l part (take n text) n p (omega arith) (sym front)
+    put_mid-paste from (from + n - from) l part (take n text) n w (omega arith) (sym front)
     ∙ ap (λ x. take from l ++ x ++ drop (from + n) l) (take_all n (take n text) (omega arith))
     ∙ ap (λ k. take from l ++ take n text ++ drop (from + k) l) (sym front)
     ∙ sym (sets-eq (take n text) l from (omega arith))
     ∙ sets_cut l text from n (omega arith) g ∙ ap (λ k. sets l k text) e ∙ sets_least l i (length l) text refl in
-    record { bytes = bytes; place = omega arith; size = ap length bytes ∙ length-sets l i text }
+    record { bytes = bytes; place = omega arith; size = ap length bytes ∙ length-sets l i text; same_reference = refl }
 
 -- ---- numbers
 pub spaced_append : (a b : List ℕ) → spaced (a ++ b) ≡ spaced a ++ spaced b
@@ -93,21 +97,25 @@ spaced_append [] b = refl
 spaced_append (n ∷ a) b = rw (spaced_append a b) (ap (λ l. SPACE ∷ l) (sym (append_assoc (decimal n) (spaced a) (spaced b))))
 
 -- two writings of numbers are one of both lists
-pub numbers_joined : {l m k : List ℕ} {i j n : ℕ} (a b : List ℕ) → Wrote l i (spaced a) j m → Wrote m j (spaced b) n k → Wrote l i (spaced (a ++ b)) n k
-numbers_joined {l} {m} {k} {i} {j} {n} a b v w = rw (spaced_append a b) (joined v w)
+pub numbers_joined : {p q r : Page} (a b : List ℕ) → Wrote p (spaced a) q → Wrote q (spaced b) r → Wrote p (spaced (a ++ b)) r
+numbers_joined a b v w = rw (spaced_append a b) (joined v w)
 
--- a space, and a number
-pub one_number : {l m k : List ℕ} {i j p : ℕ} (n : ℕ) → Wrote l i (SPACE ∷ []) j m → Wrote m j (decimal n) p k → Wrote l i (spaced (n ∷ [])) p k
-unfolding spaced
-one_number n v w = wrote_as (ap (λ l. SPACE ∷ l) (sym (append-nil (decimal n)))) (joined v w)
+-- a space, and a text
+pub after_space : {p q r : Page} {a : List ℕ} → Wrote p (SPACE ∷ []) q → Wrote q a r → Wrote p (SPACE ∷ a) r
+after_space v w = joined v w
 
-pub no_numbers : (l : List ℕ) (i j : ℕ) → j ≡ min i (length l) → Wrote l i (spaced []) j l
+-- a space, and a number as std writes it
+pub one_number : {p q : Page} (n : ℕ) → n < 2 ^ 64 → Wrote p (SPACE ∷ std_decimal n) q → Wrote p (spaced (n ∷ [])) q
 unfolding spaced
-no_numbers l i j e = nothing l i j e
+one_number n h w = wrote_as (ap (λ l. SPACE ∷ l) (sym (decimal_same n h) ∙ sym (append-nil (decimal n)))) w
+
+pub no_numbers : {p q : Page} → Wrote p [] q → Wrote p (spaced []) q
+unfolding spaced
+no_numbers w = w
 
 -- the next number of a list, behind those before it
-pub one_more_number : {l m k : List ℕ} {i j p n : ℕ} (ns : List ℕ) (x : ℕ) → x < length ns → n ≡ get_or ns x 0
-    → Wrote l i (spaced (take x ns)) j m → Wrote m j (spaced (n ∷ [])) p k → Wrote l i (spaced (take (x + 1) ns)) p k
+pub one_more_number : {p q r : Page} {n : ℕ} (ns : List ℕ) (x : ℕ) → x < length ns → n ≡ get_or ns x 0
+    → Wrote p (spaced (take x ns)) q → Wrote q (spaced (n ∷ [])) r → Wrote p (spaced (take (x + 1) ns)) r
 one_more_number {n = n} ns x h e v w =
     wrote_as (ap (λ q. spaced (take x ns ++ q ∷ [])) e ∙ ap spaced (sym (take_more ns x 0 h))) (numbers_joined (take x ns) (n ∷ []) v w)
 

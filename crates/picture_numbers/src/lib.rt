@@ -1,66 +1,85 @@
 // SPDX-License-Identifier: Apache-2.0
-// Texts and numbers written into a list of bytes. Every function writes from a place of `out` on and answers the place behind what it wrote.
-// Where there is no room it writes less, and a place past the end is taken for the end, so an answer is always within `out`. `out` and the place stay two
-// parameters: a struct that held the `&mut` would owe at each call that it holds the same list still, and `flush` lends the list out besides.
+// Texts and numbers written into a list of bytes.
 #![tactic(auto)]
 
-ghost use Rattle.std.specs.Prelude.{◌≡◌, [], ◌∷◌, ◌≤◌, min, length, leb, if◌then◌else◌, IfOk, IsOk};
-ghost use Rattle.sheet_lines.specs.Text.{decimal};
-ghost use Rattle.picture_numbers.specs.Wrote.{Wrote};
+ghost use Rattle.std.specs.Prelude.{◌≡◌, ◌∷◌, ◌≤◌, take, leb, if◌then◌else◌, IsOk};
+ghost use Rattle.sheet_lines.specs.Text.{SPACE};
+ghost use Rattle.picture_numbers.specs.Wrote.{waiting, Wrote, SameList};
 ghost use Rattle.picture_numbers.specs.Numbers.{spaced, all_zero};
 
+use itoa::Integer;
 use streams::Failed;
 
-// The bytes before a place go to standard output where they are more than `most`: how many wait then.
-pub fn flush<R: Print + Eprint>(rt: &R, out: &[u8], at: usize, most: usize) -> Result<usize, Failed>
-    ensures count_value { IfOk result (λ count. count ≡ (if leb (min at (length out.now)) most then min at (length out.now) else 0)) }
-    ensures ok_value { min at (length out.now) ≤ most → IsOk result }
-{
-    let end = at.min(out.len());
-    if end <= most {
-        return Ok(end);
+// A text that is being written into a list of bytes: `at` is the place behind what stands there. Where there is no room less is written, and a place past
+// the end is taken for the end.
+#[derive(Drop)]
+pub struct Page<'a> {
+    pub bytes: &'a mut [u8],
+    pub at: usize,
+}
+
+impl Page<'_> {
+    // Some bytes as they are.
+    #[tactic(auto, using(crate::proofs::Laws::stored))]
+    pub fn put_text(&mut self, text: &[u8])
+        ensures { Wrote self.old text.now self.new }
+    {
+        let from = self.at.min(self.bytes.len());
+        let count = text.len().min(self.bytes.len() - from);
+        let end = from + count;
+        self.bytes[from..end].copy_from_slice(&text[..count]);
+        self.at = end;
     }
-    streams::write_out(rt, &out[..end])?;
-    Ok(0)
-}
 
-// Some bytes as they are.
-#[tactic(auto, using(crate::proofs::Laws::stored))]
-pub fn put_text(out: &mut [u8], at: usize, text: &[u8]) -> usize
-    ensures { Wrote out.old at text.now result out.new }
-{
-    let from = at.min(out.len());
-    let count = text.len().min(out.len() - from);
-    let end = from + count;
-    out[from..end].copy_from_slice(&text[..count]);
-    end
-}
-
-// A number in decimal.
-#[tactic(auto, using(crate::proofs::Laws::wrote_as, sheet_lines::proofs::Bytes::decimal_same))]
-pub fn digits(out: &mut [u8], at: usize, n: u64) -> usize
-    ensures { Wrote out.old at (decimal n) result out.new }
-{
-    put_text(out, at, itoa::Buffer::new().format(n).as_bytes())
-}
-
-// A space, and a number.
-pub fn put(out: &mut [u8], at: usize, n: u64) -> usize
-    ensures { Wrote out.old at (spaced (n ∷ [])) result out.new }
-{
-    let a = put_text(out, at, b" ");
-    digits(out, a, n)
-}
-
-// Some numbers.
-pub fn put_numbers(out: &mut [u8], at: usize, numbers: &[u64]) -> usize
-    ensures { Wrote out.old at (spaced numbers.now) result out.new }
-{
-    let mut to = at.min(out.len());
-    for n in numbers {
-        to = put(out, to, *n);
+    // A number in decimal.
+    pub fn digits<I: Integer>(&mut self, n: I)
+        ensures { Wrote self.old (I.text n) self.new }
+    {
+        self.put_text(itoa::Buffer::new().format(n).as_bytes());
     }
-    to
+
+    // A space, and a number.
+    #[tactic(auto, using(crate::proofs::Laws::after_space))]
+    pub fn put<I: Integer>(&mut self, n: I)
+        ensures { Wrote self.old (SPACE ∷ I.text n) self.new }
+    {
+        self.put_text(b" ");
+        self.digits(n);
+    }
+
+    // Some numbers.
+    pub fn put_numbers(&mut self, numbers: &[u64])
+        ensures { Wrote self.old (spaced numbers.now) self.new }
+    {
+        // A place past the end is taken for the end with no numbers too.
+        self.put_text(b"");
+        for n in numbers {
+            self.put(*n);
+        }
+    }
+
+    // What stands there.
+    fn text(&self) -> &[u8]
+        ensures { result.now ≡ take (waiting self.now) self.now.bytes.now }
+    {
+        &self.bytes[..self.at.min(self.bytes.len())]
+    }
+
+    // Where more than `most` bytes stand there, they go to standard output, and the next text begins at place 0.
+    pub fn flush<R: Print + Eprint>(&mut self, rt: &R, most: usize) -> Result<(), Failed>
+        ensures bytes_unchanged { self.new.bytes.now ≡ self.old.bytes.now }
+        ensures same_list { SameList self.old self.new }
+        ensures at_value { self.new.at ≡ (if leb (waiting self.old) most then waiting self.old else 0) }
+        ensures ok_value { waiting self.old ≤ most → IsOk result }
+    {
+        self.at = self.text().len();
+        if self.at <= most {
+            return Ok(());
+        }
+        let written = streams::write_out(rt, self.text());
+        self.at = 0;
+        written
+    }
 }
 
 pub fn all_zero(numbers: &[u64]) -> bool

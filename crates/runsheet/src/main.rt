@@ -12,12 +12,6 @@ const BLOCK: usize = 49152;
 // Room for a line of at most 96 bytes for each of them.
 const ROOM: usize = 196608;
 
-// Whether an argument stands behind the program's name. Its text is not needed.
-fn has_argument<R: Env>(rt: &R) -> bool {
-    let mut text: [u8; 1] = [0; 1];
-    !matches!(rt.arg(1, &mut text), Err(FillError::NotPresent))
-}
-
 // `blocks` of crate sheet is the theorem that these blocks print what the whole input prints. A short count is the end of the
 // input, so nothing of a block is kept but what stands.
 fn run<R: Input + Print + Eprint>(rt: &R) -> Result<(), Failed> {
@@ -25,6 +19,7 @@ fn run<R: Input + Print + Eprint>(rt: &R) -> Result<(), Failed> {
     let mut out: [u8; ROOM] = [0; ROOM];
     let mut standing = sheet_standing::start();
     let mut number = 0;
+    // No `loop`: it needs a measure, and the input has no known end.
     for _ in 0..u64::MAX {
         let count = streams::read_block(rt, &mut bytes)?;
         let ran = sheet::run(standing, number, &bytes[..count], &mut out);
@@ -39,7 +34,8 @@ fn run<R: Input + Print + Eprint>(rt: &R) -> Result<(), Failed> {
 }
 
 fn main(rt: HostRuntime) {
-    if has_argument(&rt) {
+    // An argument, whatever its text.
+    if !matches!(rt.arg(1, &mut []), Err(FillError::NotPresent)) {
         let _ = eprintln!(rt; "usage: runsheet < SHEET > LINES");
         return;
     }

@@ -8,35 +8,17 @@ use mathlib.Core.Path.{◌≡◌, refl, sym, ◌∙◌, ap}
 use mathlib.Core.Bool.{Bool, true, false}
 use mathlib.Core.List.{List, [], ◌∷◌, ◌++◌, append_assoc, append-nil}
 use lib.Dec.{eqb, ltb}
-use lib.ListN.{length, take, drop, length-append, length-drop, take-append-drop, get_or-append}
+use lib.ListN.{length, take, drop, length-append, length-drop, take-append-drop}
 use lib.Seq.{drop-append-le, take_all, length-take-le}
-use borrow.Author.Tests.{ltb-true, ltb-false, lt-ltb, le-ltb, le-leb}
+use borrow.Author.Tests.{ltb-true, ltb-false, lt-ltb, le-ltb}
 use Rattle.basics.specs.Numbers.{MAX}
 use Rattle.basics.proofs.Tests.{is, yes!, no! }
 use Rattle.sheet_lines.specs.Words.{is_bad}
-use Rattle.sheet_lines.specs.Record.{byte_at, low, in_range, fields_of, read_record}
 use Rattle.sheet_standing.specs.declared.Standing.{Standing}
-use Rattle.sheet_steps.specs.Steps.{step_record, step}
+use Rattle.sheet_steps.specs.Steps.{step}
 use Rattle.sheet_steps.specs.Standing.{start}
 use Rattle.sheet.specs.Run.{Printed, in_front, line_after, or_end, run_from, run_all, run_sheet, turns, BLOCK, ROOM, in_blocks}
-use Rattle.sheet.proofs.Runs.{no_record, no_bytes, bad_step, good_step}
-
--- ---- a record is its first 24 bytes
-low_front : (m : ℕ) (x y : List ℕ) (at : ℕ) → at + m ≤ length x → low m (x ++ y) at ≡ low m x at
-unfolding low
-low_front zero x y at h = refl
-low_front (suc m) x y at h = rw (get_or-append x y 0 at (omega arith), low_front m x y (at + 1) (omega arith))
-
-read_front : (x y : List ℕ) → 24 ≤ length x → read_record (x ++ y) ≡ read_record x
-unfolding read_record in_range fields_of
-read_front x y h =
-    let byte : (i : ℕ) → i < 24 → byte_at (x ++ y) i ≡ byte_at x i = λ i k. get_or-append x y 0 i (omega arith) in
-    let long : 24 ≤ length (x ++ y) = simp length-append (omega arith) in
-    rw (le-leb 24 (length x) h, le-leb 24 (length (x ++ y)) long, byte 0 (omega arith), byte 1 (omega arith), byte 2 (omega arith), byte 3 (omega arith), low_front 4 x y 4 (omega arith), low_front 8 x y 8 (omega arith), low_front 8 x y 16 (omega arith))
-
-front : (s : Standing) (x y : List ℕ) → 24 ≤ length x → step s (x ++ y) ≡ step s x
-unfolding step
-front s x y h = ap (step_record s) (read_front x y h)
+use Rattle.sheet.proofs.Runs.{no_record, no_bytes, bad_step, good_step, front}
 
 -- ---- more turns than records change nothing
 enough_step : (a b : ℕ) (s : Standing) (n : ℕ) (bytes : List ℕ) → run_from a (step s bytes).standing (n + 1) (drop 24 bytes) ≡ run_from b (step s bytes).standing (n + 1) (drop 24 bytes) → run_from (suc a) s n bytes ≡ run_from (suc b) s n bytes

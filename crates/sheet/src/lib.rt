@@ -1,5 +1,6 @@
 // SPDX-License-Identifier: Apache-2.0
 // A whole run sheet of document 01, a block of bytes at a time.
+// `as u64`, `as usize`: there is no `From` between these, and `try_from` could fail.
 #![tactic(auto)]
 
 ghost use Rattle.std.specs.Prelude.{◌≡◌, ◌++◌, ◌+◌, ◌≤◌, length, take, drop};
@@ -7,10 +8,11 @@ ghost use Rattle.sheet_lines.specs.Words.{text_of};
 ghost use Rattle.sheet_steps.specs.Standing.{says};
 ghost use Rattle.sheet.specs.Run.{line_after, run_from, turns as turns_rule, ran_after};
 
-use sheet_lines::{Line, RECORD, Said};
+use sheet_lines::{LINE, Line, RECORD, Said};
 use sheet_standing::Standing;
 
 // What stands after a block of records, the number of the next record, how many bytes were printed, and whether `bad` ended it.
+// `ended` is a flag beside the others, which are no `Option`: what they are after `bad` is promised too.
 #[derive(Clone, Copy)]
 pub struct Ran {
     pub standing: Standing,
@@ -19,19 +21,17 @@ pub struct Ran {
     pub ended: bool,
 }
 
-// The most bytes of a line.
-const LINE: usize = 96;
-
-// A line's text in a list from a place on, and the place behind it.
+// A line's text in a list from a place on, and the place behind it. List and place stay two: what `run` promises is of the list that its caller lends.
 #[tactic(auto, using(std::proofs::lemmas::Slice::overwrites))]
 fn write_line(line: &Line, out: &mut [u8], at: usize) -> usize
-    requires { (line.now.from ≤ 96) × (at + 96 ≤ length out.old) }
+    requires { at + 96 ≤ length out.old }
     ensures out_after { take result out.new ≡ take at out.old ++ text_of line.now }
     ensures out_unchanged { drop result out.new ≡ drop result out.old }
     ensures out_len_unchanged { length out.new ≡ length out.old }
-    ensures from_value { result + line.now.from ≡ at + 96 }
+    ensures result_value { result ≡ at + length (text_of line.now) }
+    ensures upper_bound { result ≤ at + 96 }
 {
-    let text = &line.bytes[line.from..];
+    let text = line.as_slice();
     let end = at + text.len();
     out[at..end].copy_from_slice(text);
     end
@@ -64,41 +64,27 @@ fn turns(first: u64, room: usize) -> u64
 }
 
 // The records of a block, from the number of the first on: as many as have room for a line each in `out`.
-#[tactic(auto, using(crate::proofs::Runs::run_full, crate::proofs::Runs::run_end, crate::proofs::Runs::whole, crate::proofs::Runs::later), unfolding(crate::specs::Run::turns))]
-pub fn run(mut standing: Standing, first: u64, bytes: &[u8], out: &mut [u8]) -> Ran
+#[tactic(auto, unfolding(crate::specs::Run::turns))]
+pub fn run(standing: Standing, first: u64, bytes: &[u8], out: &mut [u8]) -> Ran
     ensures out_after { ran_after result out.new ≡ run_from (turns_rule first (length out.old)) standing first bytes.now }
     ensures out_unchanged { drop result.written out.new ≡ drop result.written out.old }
     ensures out_len_unchanged { length out.new ≡ length out.old }
     ensures written_in_bounds { result.written ≤ length out.old }
 {
-    let mut written = 0;
-    let mut rest = bytes;
-    let last = first + turns(first, out.len());
-    for number in first..last {
-        if rest.is_empty() {
-            return Ran {
-                standing,
-                number,
-                written,
-                ended: false,
-            };
-        }
-        let said = sheet_steps::step(&mut standing, rest);
-        written = write_record(number, said, &standing, out, written);
-        if sheet_lines::is_bad(said) {
-            return Ran {
-                standing,
-                number,
-                written,
-                ended: true,
-            };
-        }
-        rest = &rest[RECORD..];
-    }
-    Ran {
+    let mut ran = Ran {
         standing,
-        number: last,
-        written,
+        number: first,
+        written: 0,
         ended: false,
+    };
+    for record in bytes.chunks(RECORD).take(turns(first, out.len()) as usize) {
+        let said = sheet_steps::step(&mut ran.standing, record);
+        ran.written = write_record(ran.number, said, &ran.standing, out, ran.written);
+        ran.ended = sheet_lines::is_bad(said);
+        if ran.ended {
+            break;
+        }
+        ran.number += 1;
     }
+    ran
 }

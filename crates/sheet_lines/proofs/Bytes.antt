@@ -8,8 +8,7 @@ use borrow.Author.Tests.{lt-ltb, le-ltb, ltb-true, ltb-false}
 use Rattle.basics.proofs.Tests.{is, yes!, no! }
 use lib.Dec.{ltb}
 use Rattle.std.specs.Fmt.{decimal as std_decimal}
-use Rattle.std.proofs.lemmas.Fmt.{decimal_digit, decimal_step, length-decimal-le}
-use lib.ListN.{length}
+use Rattle.std.proofs.lemmas.Fmt.{decimal_digit, decimal_step}
 use Rattle.sheet_lines.specs.Text.{digit, digits_from, decimal}
 
 pub last_digit : (left n : ℕ) (behind : List ℕ) → 0 < left → n < 10 → digits_from left n behind ≡ digit n ∷ behind
@@ -45,6 +44,3 @@ all_digits (suc (suc left)) n behind h p w = elim (is (ltb n 10)) [
 pub decimal_same : (n : ℕ) → n < 2 ^ 64 → decimal n ≡ std_decimal n
 unfolding decimal
 decimal_same n w = all_digits 20 n [] (omega arith) (omega arith) w ∙ append-nil (std_decimal n)
-
-pub decimal_length : (n : ℕ) → n < 2 ^ 64 → length (std_decimal n) ≤ 20
-decimal_length n w = length-decimal-le 20 n (omega arith) (omega arith) w

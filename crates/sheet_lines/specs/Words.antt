@@ -1,8 +1,8 @@
 -- SPDX-License-Identifier: Apache-2.0
 -- "Each line has five fields: record number from 0; answer; a number or `-`; clean slots; loading slots."
-use Rattle.std.specs.Prelude.{ℕ, Bool, true, false, List, [], ◌∷◌, ◌++◌, drop, if◌then◌else◌}
+use Rattle.std.specs.Prelude.{ℕ, Bool, true, false, List, [], ◌∷◌, ◌++◌, if◌then◌else◌}
 use Rattle.sheet_lines.specs.declared.Said.{Said}
-use Rattle.sheet_lines.specs.declared.Line.{Line}
+use Rattle.arrayvec.specs.ArrayVec.{ArrayVec}
 use Rattle.sheet_lines.specs.Text.{bytes_of, decimal, SPACE, NEWLINE}
 
 -- "Words: made hit loading reserved evicted busy done none unchanged resized reclaimed refused", and `bad`
@@ -67,6 +67,6 @@ tail_of said clean loading =
 unfoldable pub line_of : ℕ → Said → ℕ → ℕ → List ℕ
 line_of n said clean loading = decimal n ++ SPACE ∷ word_of said ++ tail_of said clean loading
 
--- the text of the code's line, which is filled from the end
-abbrev pub text_of : Line → List ℕ
-text_of l = drop l.from l.bytes
+-- the code's text
+abbrev pub text_of : ArrayVec ℕ → List ℕ
+text_of t = t.items

@@ -1,11 +1,13 @@
 // SPDX-License-Identifier: Apache-2.0
 // The records and lines of document 01's run sheets, on bytes, with the rules of both: a record is read. Crate `sheet_words` writes a line.
+// `as usize`: there is no `From` between u32 and usize, and `try_from` could fail.
 #![tactic(auto)]
 
-ghost use Rattle.std.specs.Prelude.{◌≡◌, ◌+◌, ◌≤◌, ◌<◌, ◌^◌, length};
+ghost use Rattle.std.specs.Prelude.{◌≡◌, ◌+◌, ◌≤◌, ◌<◌, ◌^◌, length, take, drop};
 ghost use Rattle.sheet_lines.specs.Record.{low, read_record, place_of};
 ghost use Rattle.sheet_lines.specs.Words.{is_bad};
 
+use arrayvec::ArrayVec;
 use key::CacheKey;
 
 // A record's fields. The bytes of file, kind and index are a key. The code stays a number: `sheet_record`, `sheet_show` and `sheet_uses` take a record
@@ -37,16 +39,24 @@ pub enum Said {
     Bad,
 }
 
-// A line of text, which begins at `from` and ends with its bytes: filled from its end, since `itoa` gives a number's digits where they are to end, and
-// nothing is moved after.
-#[derive(Clone, Copy)]
-pub struct Line {
-    pub bytes: [u8; 96],
-    pub from: usize,
-}
+// The most bytes of a line.
+pub const LINE: usize = 96;
+
+// A line's text.
+pub type Line = ArrayVec<u8, LINE>;
 
 // The bytes of a record.
 pub const RECORD: usize = 24;
+
+// Some bytes from a place on.
+fn bytes_at<const N: usize>(bytes: &[u8], at: usize) -> [u8; N]
+    requires { at + N ≤ length bytes.now }
+    ensures { result ≡ take N (drop at bytes.now) }
+{
+    let mut part = [0; N];
+    part.copy_from_slice(&bytes[at..at + N]);
+    part
+}
 
 // A number of four bytes, low byte first.
 #[tactic(auto, unfolding(crate::specs::Record::low))]
@@ -54,7 +64,7 @@ fn low_4(bytes: &[u8], at: usize) -> u32
     requires { at + 4 ≤ length bytes.now }
     ensures { result ≡ low 4 bytes.now at }
 {
-    u32::from_le_bytes([bytes[at], bytes[at + 1], bytes[at + 2], bytes[at + 3]])
+    u32::from_le_bytes(bytes_at(bytes, at))
 }
 
 // A number of eight.
@@ -63,16 +73,7 @@ fn low_8(bytes: &[u8], at: usize) -> u64
     requires { at + 8 ≤ length bytes.now }
     ensures { result ≡ low 8 bytes.now at }
 {
-    u64::from_le_bytes([
-        bytes[at],
-        bytes[at + 1],
-        bytes[at + 2],
-        bytes[at + 3],
-        bytes[at + 4],
-        bytes[at + 5],
-        bytes[at + 6],
-        bytes[at + 7],
-    ])
+    u64::from_le_bytes(bytes_at(bytes, at))
 }
 
 // The record at the front of some bytes; none where they are too few, or a field is off its range.

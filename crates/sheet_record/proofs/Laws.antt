@@ -4,10 +4,10 @@ use Rattle.std.proofs.Common.{Some, None, if◌then◌else◌}
 use Prim.Native.Nat.{ℕ, ◌+◌, ◌*◌, ◌^◌, ◌≤◌, ◌<◌}
 use native.Mathlib.Omega.{arith}
 use mathlib.Core.Path.{◌≡◌, refl, ◌∙◌}
-use mathlib.Core.Bool.{Bool, true, false, ◌&&◌}
+use mathlib.Core.Bool.{Bool, true, false}
 use mathlib.Core.List.{◌∷◌, ◌++◌}
-use lib.Dec.{eqb, ltb, leb}
-use borrow.Author.Tests.{le-leb, lt-leb}
+use lib.Dec.{eqb, leb}
+use borrow.Author.Tests.{le-leb}
 use Rattle.std.specs.Int.{w32, w64, to_le_bytes, from_bool}
 use Rattle.std.proofs.lemmas.Nat.{from_le_bytes-to_le_bytes_4, from_le_bytes-to_le_bytes_8}
 use Rattle.sheet_lines.specs.declared.Record.{Record}
@@ -40,16 +40,3 @@ pub reads_back : (r : Record) → r.place ≤ 15 → r.number ≤ 4294967295 →
 unfolding read_record in_range fields_of good low
 reads_back r place number file index =
     rw (four_back r.number (omega arith), eight_back r.key.file file, eight_back r.key.index index, (bit_one r.allow).0, (bit_one r.allow).1, le-leb _ _ place, le-leb _ _ number)
-
--- ---- a record off its range
-and_no : (a : Bool) → a && false ≡ false
-and_no true = refl
-and_no false = refl
-
-pub far_place : (r : Record) → 15 < r.place → good r ≡ false
-unfolding good
-far_place r h = rw (lt-leb _ _ h, and_no (ltb 0 r.code && leb r.code 9))
-
-pub far_number : (r : Record) → 4294967295 < r.number → good r ≡ false
-unfolding good
-far_number r h = rw (lt-leb _ _ h, and_no (ltb 0 r.code && leb r.code 9 && leb r.place 15))

@@ -6,14 +6,14 @@ ghost use Rattle.std.specs.Prelude.{◌≡◌, Some, None, if◌then◌else◌};
 ghost use Rattle.sheet_lines.specs.Record.{read_record};
 ghost use Rattle.sheet_record.specs.Good.{good};
 
-use sheet_lines::Record;
+use sheet_lines::{RECORD, Record};
 
 // The bytes that are read as the record; of a record off its range, bytes that are read as `bad`.
-#[tactic(auto, using(crate::proofs::Laws::far_place, crate::proofs::Laws::far_number), unfolding(sheet_lines::specs::Record::read_record, sheet_lines::specs::Record::in_range))]
-pub fn write_record(call: Record) -> [u8; 24]
+#[tactic(auto, using(basics::proofs::Tests::tests), unfolding(crate::specs::Good::good, sheet_lines::specs::Record::read_record, sheet_lines::specs::Record::in_range))]
+pub fn write_record(call: Record) -> [u8; RECORD]
     ensures { read_record result ≡ (if good call then Some call else None) }
 {
-    let mut bytes = [0; 24];
+    let mut bytes = [0; RECORD];
     let Ok(place) = u8::try_from(call.place) else {
         return bytes;
     };

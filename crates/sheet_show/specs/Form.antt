@@ -5,13 +5,8 @@ use Rattle.std.specs.Prelude.{ℕ, zero, suc, Bool, true, false, List, [], ◌�
 use Rattle.sheet_lines.specs.declared.Record.{Record}
 use Rattle.sheet_lines.specs.Record.{read_record}
 use Rattle.sheet_lines.specs.Text.{bytes_of, decimal, NEWLINE}
-use Rattle.arrayvec.specs.ArrayVec.{ArrayVec}
 use Rattle.sheet_record.specs.Good.{bit_of}
 use Rattle.sheet_uses.specs.Uses.{uses_number, only_used}
-
--- the code's text
-abbrev pub text_of : ArrayVec ℕ → List ℕ
-text_of t = t.items
 
 -- a field with its name, where it is not what is usual
 unfoldable pub field_text : List ℕ → ℕ → ℕ → List ℕ

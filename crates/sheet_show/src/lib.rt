@@ -3,14 +3,16 @@
 // fields by their names. A field that the call does not use is 0 in such a line; a record where one is not is shown as `record` with every field.
 #![tactic(auto)]
 
-ghost use Rattle.std.specs.Prelude.{◌≡◌, ◌++◌, ◌+◌, ◌≤◌, length};
+ghost use Rattle.std.specs.Prelude.{◌≡◌, [], ◌++◌, ◌+◌, ◌≤◌, length, if◌then◌else◌};
 ghost use Rattle.arrayvec.specs.ArrayVec.{array_vec_len};
-ghost use Rattle.sheet_lines.specs.Text.{decimal};
-ghost use Rattle.sheet_show.specs.Form.{shown, word_text, call_text, record_text, head_text, field_text, usual_allow, text_of};
+ghost use Rattle.sheet_lines.specs.Words.{text_of};
+ghost use Rattle.sheet_show.specs.Form.{shown, word_text, call_text, record_text, head_text, usual_allow};
 
 use arrayvec::ArrayVec;
+use itoa::Integer;
 use sheet_lines::Record;
 use sheet_uses::{only_used, uses_number};
+use sheet_words::{put, put_number};
 
 // The bytes that a record's line of text has room in.
 pub const ROOM: usize = 200;
@@ -18,32 +20,12 @@ pub const ROOM: usize = 200;
 // A record's line.
 pub type Text = ArrayVec<u8, ROOM>;
 
-// Some bytes behind a text.
-fn put(text: &mut Text, word: &[u8])
-    requires { array_vec_len text.old + length word.now ≤ 200 }
-    ensures text_value { text_of text.new ≡ text_of text.old ++ word.now }
-    ensures len_value { array_vec_len text.new ≡ array_vec_len text.old + length word.now }
-{
-    text.try_extend_from_slice(word).unwrap();
-}
-
-// A number behind a text.
-#[tactic(auto, using(sheet_lines::proofs::Bytes::decimal_same, sheet_lines::proofs::Bytes::decimal_length))]
-fn put_number(text: &mut Text, number: u64)
-    requires { array_vec_len text.old + 20 ≤ 200 }
-    ensures text_value { text_of text.new ≡ text_of text.old ++ decimal number }
-    ensures len_bound { array_vec_len text.new ≤ array_vec_len text.old + 20 }
-{
-    let mut digits = itoa::Buffer::new();
-    put(text, digits.format(number).as_bytes());
-}
-
-// A field behind it, with its name, where it is not what is usual.
-#[tactic(auto, using(basics::proofs::Tests::tests), unfolding(crate::specs::Form::field_text))]
-fn put_field(text: &mut Text, name: &[u8], value: u64, usual: u64)
-    requires { array_vec_len text.old + length name.now + 20 ≤ 200 }
-    ensures text_value { text_of text.new ≡ text_of text.old ++ field_text name.now value usual }
-    ensures len_bound { array_vec_len text.new ≤ array_vec_len text.old + length name.now + 20 }
+// A field behind a text, with its name, where it is not what is usual. The room that is left stands in clauses: it is another number at each function.
+#[tactic(auto, using(std::proofs::lemmas::List::append_assoc))]
+fn put_field<I: Integer + PartialEq>(text: &mut Text, name: &[u8], value: I, usual: I)
+    requires { array_vec_len text.old + length name.now + I.MAX_STR_LEN ≤ 200 }
+    ensures text_value { text_of text.new ≡ text_of text.old ++ (if I.eq value usual then [] else name.now ++ I.text value) }
+    ensures len_bound { array_vec_len text.new ≤ array_vec_len text.old + length name.now + I.MAX_STR_LEN }
 {
     if value != usual {
         put(text, name);
@@ -51,7 +33,7 @@ fn put_field(text: &mut Text, name: &[u8], value: u64, usual: u64)
     }
 }
 
-// The word of a call, with what stands before its number.
+// The word of a call, with what stands before its number. Tests on numbers: the codes are document 01's, and a record may have any byte as its code.
 #[tactic(auto, using(basics::proofs::Tests::tests), unfolding(crate::specs::Form::word_text, sheet_lines::specs::Text::bytes_of))]
 fn word_of(code: u8, allow: bool) -> &'static [u8]
     ensures value { result.now ≡ word_text allow code }
@@ -72,7 +54,7 @@ fn word_of(code: u8, allow: bool) -> &'static [u8]
 }
 
 // The front of a line that is a call: its word, with its number where it uses one.
-#[tactic(auto, using(basics::proofs::Tests::tests), unfolding(crate::specs::Form::call_text))]
+#[tactic(auto, using(basics::proofs::Tests::tests, sheet_lines::proofs::Bytes::decimal_same), unfolding(crate::specs::Form::call_text))]
 fn call_text(call: Record) -> Text
     ensures text_value { text_of result ≡ call_text call }
     ensures len_bound { array_vec_len result ≤ 60 }
@@ -80,21 +62,21 @@ fn call_text(call: Record) -> Text
     let mut text = ArrayVec::new();
     put(&mut text, word_of(call.code, call.allow));
     if uses_number(call.code) {
-        put_number(&mut text, call.number as u64);
+        put_number(&mut text, call.number);
     }
     text
 }
 
 // The front of a line that tells every field.
-#[tactic(auto, unfolding(crate::specs::Form::record_text, sheet_lines::specs::Text::bytes_of))]
+#[tactic(auto, using(sheet_lines::proofs::Bytes::decimal_same), unfolding(crate::specs::Form::record_text, crate::specs::Form::field_text, sheet_lines::specs::Text::bytes_of))]
 fn record_text(call: Record) -> Text
     ensures text_value { text_of result ≡ record_text call }
     ensures len_bound { array_vec_len result ≤ 60 }
 {
     let mut text = ArrayVec::new();
     put(&mut text, b"record code=");
-    put_number(&mut text, u64::from(call.code));
-    put_field(&mut text, b" number=", call.number as u64, 0);
+    put_number(&mut text, call.code);
+    put_field(&mut text, b" number=", call.number, 0);
     text
 }
 
@@ -120,23 +102,18 @@ fn usual_allow(call: Record) -> bool
 }
 
 // The line of a record, with its end.
-#[tactic(auto, unfolding(crate::specs::Form::shown, sheet_lines::specs::Text::bytes_of))]
+#[tactic(auto, using(sheet_lines::proofs::Bytes::decimal_same), unfolding(crate::specs::Form::shown, crate::specs::Form::field_text, sheet_lines::specs::Text::bytes_of))]
 pub fn show_record(call: Record) -> Text
     ensures result_value { text_of result ≡ shown call }
     ensures len_bound { array_vec_len result ≤ 200 }
 {
     let mut text = head_text(call);
     put_field(&mut text, b" file=", call.key.file, 0);
-    put_field(&mut text, b" kind=", u64::from(call.key.kind), 0);
+    put_field(&mut text, b" kind=", call.key.kind, 0);
     put_field(&mut text, b" index=", call.key.index, 0);
     let usual = usual_allow(call);
-    put_field(
-        &mut text,
-        b" allow=",
-        u64::from(call.allow),
-        u64::from(usual),
-    );
-    put_field(&mut text, b" place=", call.place as u64, 0);
+    put_field(&mut text, b" allow=", u8::from(call.allow), u8::from(usual));
+    put_field(&mut text, b" place=", call.place, 0);
     text.push(b'\n');
     text
 }

@@ -10,7 +10,8 @@ use state::{LoadToken, State};
 
 // What stands between two records: the table, the token places, a pin byte for each slot, and whether there was a table made.
 // `stands` is a flag beside the table, which is no `Option`, since every step works on the table by value, and a table taken out of
-// an `Option` and put back would be copied twice more.
+// an `Option` and put back would be copied twice more. The trace also shows the table of no slots that stands before the first is made.
+// `places` and `pins` are not parallel: the one goes by token place, the other by slot, and the calls are lent the pins as a list.
 #[derive(Clone, Copy)]
 pub struct Standing {
     pub state: State,

@@ -22,6 +22,7 @@ use Rattle.std.proofs.lemmas.List.Recursion.{is_position_or_len}
 use Rattle.std.proofs.lemmas.Option.{none-some, same_Some}
 use Rattle.std.proofs.lemmas.Slice.{between_to_end}
 use Rattle.basics.proofs.Tests.{is, yes!, no!, and_left, and_right}
+use Rattle.sheet_text.specs.Fields.{field, value_at, within}
 use Rattle.sheet_text.specs.Find.{index_of}
 use Rattle.sheet_record.specs.Good.{good}
 use Rattle.sheet_lines.specs.declared.Record.{Record}
@@ -31,7 +32,7 @@ use Rattle.sheet_text.specs.declared.Field.{Field}
 use Rattle.sheet_text.specs.declared.Begun.{Begun}
 use Rattle.sheet_text.specs.declared.Span.{Span}
 use Rattle.sheet_text.specs.declared.Fault.{Fault}
-use Rattle.sheet_text.specs.Parse.{and_then, is_blank, counts_as, run_of, same_bytes, place_in, number_from, number_of, skip, word_size, word, behind, word_from, word_to, span_at, next_word, field, value_at, least, most, call_of, begin, faulty, going, field_of, with_value, with_word, record_of, finished, with_words, text_says, within, in_line, good_call, good_line}
+use Rattle.sheet_text.specs.Parse.{and_then, is_blank, counts_as, run_of, place_in, number_from, number_of, skip, word_size, word, behind, word_from, word_to, span_at, next_word, least, most, call_of, begin, faulty, field_of, with_value, with_word, record_of, finished, with_words, text_says}
 
 -- ---- the first byte that is so
 -- a count of the bytes before it is what `position` finds
@@ -50,9 +51,9 @@ unfolding index_of
 find_step b x xs true e = rw (← e)
 find_step b x xs false e = rw (← e) (omega arith)
 
-pub find_is : (b : ℕ) (l : List ℕ) → unwrap_or (position (λ x. eqb x b) l) (length l) ≡ index_of b l
+pub find_is : (b : ℕ) (l : List ℕ) (o : Option ℕ) → o ≡ position (λ x. eqb x b) l → unwrap_or o (length l) ≡ index_of b l
 unfolding index_of
-find_is b l = first_is (λ t. index_of b t) (λ x. eqb x b) refl (λ x xs. find_step b x xs (eqb x b) refl) l
+find_is b l o e = rw e (first_is (λ t. index_of b t) (λ x. eqb x b) refl (λ x xs. find_step b x xs (eqb x b) refl) l)
 
 pub counts_lem : (blank : Bool) (b : ℕ) → beq (is_blank b) blank ≡ counts_as blank b
 unfolding counts_as
@@ -69,9 +70,9 @@ unfolding run_of
 run_step blank x xs true e = rw (← e) (omega arith)
 run_step blank x xs false e = rw (← e)
 
-pub run_is : (blank : Bool) (l : List ℕ) → unwrap_or (position (λ x. not (counts_as blank x)) l) (length l) ≡ run_of blank l
+pub run_is : (blank : Bool) (l : List ℕ) (o : Option ℕ) → o ≡ position (λ x. not (counts_as blank x)) l → unwrap_or o (length l) ≡ run_of blank l
 unfolding run_of
-run_is blank l = first_is (λ t. run_of blank t) (λ x. not (counts_as blank x)) refl (λ x xs. run_step blank x xs (counts_as blank x) refl) l
+run_is blank l o e = rw e (first_is (λ t. run_of blank t) (λ x. not (counts_as blank x)) refl (λ x xs. run_step blank x xs (counts_as blank x) refl) l)
 
 -- ---- a number's digits
 digit_above : (b : ℕ) → 48 ≤ b → is_ascii_digit b ≡ false → 57 < b
@@ -79,9 +80,6 @@ digit_above b l h = elim (is (leb b 57)) [
   | yes! e ↦ absurd (false≢true (sym h ∙ rw (le-leb 48 b l, e)))
   | no! e ↦ omega (arith, leb-false _ _ e)
 ]
-
-pub digit_is : (b : ℕ) → is_ascii_digit b ≡ true → (48 ≤ b) × (b ≤ 57)
-digit_is b h = (leb-true 48 b (and_left (leb 48 b) (leb b 57) h), leb-true b 57 (and_right (leb 48 b) (leb b 57) h))
 
 pub number_begins : (w : List ℕ) → (length w ≡ 0 → ⊥) → number_from 0 w ≡ number_of w
 unfolding number_of
@@ -109,14 +107,6 @@ module _ (w : List ℕ) (n i : ℕ) (inside : i < length w) where
 pub digits_end : (w : List ℕ) (n i : ℕ) → length w ≤ i → number_from n (drop i w) ≡ Ok n
 unfolding number_from
 digits_end w n i h = rw (drop_of_length-le w h)
-
--- ---- equal words
-pub same_is : (a b : List ℕ) → bytes_eq a b ≡ same_bytes a b
-unfolding same_bytes
-same_is [] [] = refl
-same_is [] (y ∷ b) = refl
-same_is (x ∷ a) [] = refl
-same_is (x ∷ a) (y ∷ b) = rw (same_is a b)
 
 -- ---- the next word of a text, by its places
 skip_is : (l : List ℕ) (at from : ℕ) → from ≡ at + run_of true (drop at l) → skip (drop at l) ≡ drop from l
@@ -187,27 +177,31 @@ module _ (l : List ℕ) (at : ℕ) (w : Span) (e : next_word at (drop at l) ≡ 
   to_is : word_to at (drop at l) ≡ w.to
   to_is = ap (λ (x : Span). x.to) (some_size at (drop at l) w e).1
 
-  pub words_more : (left : ℕ) (b : Begun) (call : Span) → 0 < left
-      → with_words left b call at (drop at l) ≡ going (with_word b (slice_range l w.from w.to)) w (λ next. with_words (left - 1) next call w.to (drop w.to l))
-  unfolding with_words
-  words_more zero b call h = absurd (omega arith)
-  words_more (suc left) b call h =
-      let p : suc left - 1 ≡ left = omega arith in
-      rw ((some_size at (drop at l) w e).0, taken_is, left_is, to_is, begins_is, p)
+  -- behind k steps of as many as the text has bytes
+  module _ (k : ℕ) (h : k < length l) where
+    step_is : length l - k ≡ suc (length l - (k + 1))
+    step_is = omega arith
 
-  -- a list of names
-  pub names_here : (left : ℕ) (name : List ℕ) → 0 < left → same_bytes name (slice_range l w.from w.to) ≡ true → place_in left (drop at l) name ≡ 0
-  unfolding place_in
-  names_here zero name h s = absurd (omega arith)
-  names_here (suc left) name h s = rw ((some_size at (drop at l) w e).0, taken_is, s)
+    module _ (b : Begun) (call : Span) where
+      pub words_wrong : (why : Why) → with_word b (slice_range l w.from w.to) ≡ Err why → with_words (length l - k) b call at (drop at l) ≡ faulty why w
+      unfolding with_words
+      words_wrong why s = rw (step_is, (some_size at (drop at l) w e).0, taken_is, s) (ap (λ x. faulty why x) (some_size at (drop at l) w e).1)
 
-  pub names_more : (left : ℕ) (name : List ℕ) → 0 < left → same_bytes name (slice_range l w.from w.to) ≡ false
-      → place_in left (drop at l) name ≡ place_in (left - 1) (drop w.to l) name + 1
-  unfolding place_in
-  names_more zero name h s = absurd (omega arith)
-  names_more (suc left) name h s =
-      let p : suc left - 1 ≡ left = omega arith in
-      rw ((some_size at (drop at l) w e).0, taken_is, s, left_is, p) (sym (add-one (place_in left (drop w.to l) name)))
+      pub words_more : (next : Begun) → with_word b (slice_range l w.from w.to) ≡ Ok next
+          → with_words (length l - k) b call at (drop at l) ≡ with_words (length l - (k + 1)) next call w.to (drop w.to l)
+      unfolding with_words
+      words_more next s = rw (step_is, (some_size at (drop at l) w e).0, taken_is, left_is, to_is, s)
+
+    -- a list of names
+    module _ (name : List ℕ) where
+      pub names_here : bytes_eq name (slice_range l w.from w.to) ≡ true → place_in (length l - k) (drop at l) name ≡ 0
+      unfolding place_in
+      names_here s = rw (step_is, (some_size at (drop at l) w e).0, taken_is, s)
+
+      pub names_more : bytes_eq name (slice_range l w.from w.to) ≡ false
+          → place_in (length l - k) (drop at l) name ≡ place_in (length l - (k + 1)) (drop w.to l) name + 1
+      unfolding place_in
+      names_more s = rw (step_is, (some_size at (drop at l) w e).0, taken_is, s, left_is) (sym (add-one (place_in (length l - (k + 1)) (drop w.to l) name)))
 
 pub names_none : (l : List ℕ) (at left : ℕ) (name : List ℕ) → next_word at (drop at l) ≡ None → place_in left (drop at l) name ≡ 0
 unfolding place_in
@@ -227,11 +221,11 @@ module _ (l : List ℕ) (w : Span) (e : next_word 0 l ≡ Some w) where
   unfolding text_says
   text_no_call h = rw ((some_size 0 l w e).0, called, lt-ltb 10 _ h) (ap (λ k. faulty Why.NoCall k) (some_size 0 l w e).1)
 
-  pub text_call : call_of (slice_range l w.from w.to) ≤ 10
-      → text_says l ≡ and_then (with_words (length l) (begin (call_of (slice_range l w.from w.to))) w w.to (drop w.to l)) (λ r. Ok (Some r))
+  pub text_call : (b : Begun) → b ≡ begin (call_of (slice_range l w.from w.to)) → call_of (slice_range l w.from w.to) ≤ 10 → (r : Result Record Fault)
+      → r ≡ with_words (length l) b w w.to (drop w.to l) → text_says l ≡ and_then r (λ r. Ok (Some r))
   unfolding text_says
-  text_call h =
-      rw ((some_size 0 l w e).0, called, le-ltb 10 _ h, left_is l 0 w e, to_is l 0 w e, begins_is l 0 w e)
+  text_call b f h r g =
+      rw ((some_size 0 l w e).0, called, le-ltb 10 _ h, left_is l 0 w e, to_is l 0 w e, begins_is l 0 w e, g, f)
 
 pub words_end : (left : ℕ) (b : Begun) (call : Span) (at : ℕ) (text : List ℕ) → left ≤ 0 → with_words left b call at text ≡ finished b call
 unfolding with_words
@@ -244,22 +238,20 @@ names_end zero names w h = refl
 names_end (suc left) names w h = absurd (omega arith)
 
 -- ---- a word behind a call
-module _ (b : Begun) (w : List ℕ) (at : ℕ) (at_is : at ≡ index_of 61 w) where
-  pub word_number : at ≡ length w → with_word b w ≡ and_then (number_of w) (λ v. with_value b 4 v)
+module _ (b : Begun) (w : List ℕ) where
+  pub word_number : index_of 61 w ≡ length w → with_word b w ≡ and_then (number_of w) (λ v. with_value b 4 v)
   unfolding with_word
-  word_number e = rw (eq-eqb (index_of 61 w) (length w) (sym at_is ∙ e))
+  word_number e = rw (eq-eqb (index_of 61 w) (length w) e)
 
-  module _ (n : at ≡ length w → ⊥) where
-    pub word_no_field : 6 < field_of (take at w) → Err Why.NoField ≡ with_word b w
+  module _ (n : index_of 61 w ≡ length w → ⊥) where
+    pub word_no_field : 6 < field_of (take (index_of 61 w) w) → with_word b w ≡ Err Why.NoField
     unfolding with_word
-    word_no_field h = rw (ne_eqb (index_of 61 w) (length w) (λ e. n (at_is ∙ e)), ← at_is, lt-ltb 6 _ h)
+    word_no_field h = rw (ne_eqb (index_of 61 w) (length w) n, lt-ltb 6 _ h)
 
-    pub word_field : (k : ℕ) → k ≤ 6 → k ≡ field_of (take at w)
-        → with_word b w ≡ and_then (number_of (slice_range w (at + 1) (length w))) (λ v. with_value b k v)
+    pub word_field : field_of (take (index_of 61 w) w) ≤ 6
+        → with_word b w ≡ and_then (number_of (slice_range w (index_of 61 w + 1) (length w))) (λ v. with_value b (field_of (take (index_of 61 w) w)) v)
     unfolding with_word
-    word_field k h e =
-        let f : field_of (take at w) ≤ 6 = omega arith in
-        rw (ne_eqb (index_of 61 w) (length w) (λ e. n (at_is ∙ e)), ← at_is, le-ltb 6 _ f, between_to_end w (at + 1) (length w) (omega arith), e)
+    word_field h = rw (ne_eqb (index_of 61 w) (length w) n, le-ltb 6 _ h, between_to_end w (index_of 61 w + 1) (length w) (omega arith))
 
 -- ---- values in their ranges
 -- a test of a value holds after another was stored, or this one
@@ -303,19 +295,3 @@ unfolding good record_of
 good_values l w =
     let p = within_parts l w in
     rw (lt-ltb _ _ p.0, le-leb _ _ p.1, le-leb _ _ p.3, le-leb _ _ p.4)
-
--- a word that stands in a line stands in a longer one
-pub in_longer : (f : Fault) (n m : ℕ) → n ≤ m → in_line n f ≡ true → in_line m f ≡ true
-in_longer f n m h e =
-    let a = and_left (leb f.word.from f.word.to) (leb f.word.to n) e in
-    let b = leb-true f.word.to n (and_right (leb f.word.from f.word.to) (leb f.word.to n) e) in
-    rw (a, le-leb f.word.to m (omega arith))
-
-pub call_longer : (p : Result Record Fault) (n m : ℕ) → n ≤ m → good_call n p ≡ true → good_call m p ≡ true
-call_longer (Ok r) n m h e = e
-call_longer (Err fault) n m h e = in_longer fault n m h e
-
-pub line_longer : (p : Result (Option Record) Fault) (n m : ℕ) → n ≤ m → good_line n p ≡ true → good_line m p ≡ true
-line_longer (Ok (Some r)) n m h e = e
-line_longer (Ok None) n m h e = refl
-line_longer (Err fault) n m h e = in_longer fault n m h e

@@ -15,7 +15,7 @@ use Rattle.sheet_show.specs.Form.{field_text, word_text, call_text, record_text,
 use Rattle.std.proofs.Common.{Option, Some, Result, Ok}
 use Rattle.sheet_text.specs.declared.Why.{Why}
 use Rattle.sheet_text.specs.declared.Fault.{Fault}
-use Rattle.sheet_text.specs.Parse.{is_blank, counts_as, run_of, same_bytes, place_in, number_from, number_of, field_of, least, most, plain_call, call_of, begin, with_value, with_word, record_of, faulty, finished, with_words, text_says, line_says}
+use Rattle.sheet_text.specs.Parse.{is_blank, counts_as, run_of, place_in, number_from, number_of, field_of, least, most, plain_call, call_of, begin, with_value, with_word, record_of, faulty, finished, with_words, text_says, line_says}
 
 unfoldable pub call : ℕ → Bool → ℕ → ℕ → ℕ → ℕ → ℕ → Record
 call code allow kind place number file index = record { code = code; allow = allow; place = place; number = number; key = record { file = file; kind = kind; index = index } }
@@ -42,7 +42,7 @@ unfoldable pub line_of : Record → List ℕ
 line_of r = take (length (shown r) - 1) (shown r)
 
 pub said_again : map (λ r. line_says (line_of r)) samples ≡ map (λ r. Ok (Some r)) samples
-unfolding call samples line_of index_of bytes_of digits_from decimal uses_key uses_place uses_allow uses_number uses fits is_code only_used field_text word_text call_text record_text head_text usual_allow shown is_blank counts_as run_of same_bytes place_in number_from number_of field_of least most plain_call call_of begin with_value with_word record_of finished with_words text_says line_says
+unfolding call samples line_of index_of bytes_of digits_from decimal uses_key uses_place uses_allow uses_number uses fits is_code only_used field_text word_text call_text record_text head_text usual_allow shown is_blank counts_as run_of place_in number_from number_of field_of least most plain_call call_of begin with_value with_word record_of finished with_words text_says line_says
 said_again = refl
 
 -- lines that are wrong
@@ -77,5 +77,5 @@ pub told : map (λ w. line_says (bytes_of w)) wrong_lines
     ∷ wrong Why.Missing 2 8
     ∷ wrong Why.Missing 0 6
     ∷ []
-unfolding wrong_lines wrong index_of bytes_of uses_key uses_place uses_allow uses_number uses is_blank counts_as run_of same_bytes place_in number_from number_of field_of least most plain_call call_of begin with_value with_word record_of finished with_words text_says line_says
+unfolding wrong_lines wrong index_of bytes_of uses_key uses_place uses_allow uses_number uses is_blank counts_as run_of place_in number_from number_of field_of least most plain_call call_of begin with_value with_word record_of finished with_words text_says line_says
 told = refl

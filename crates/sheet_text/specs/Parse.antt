@@ -2,7 +2,10 @@
 -- What a line of text says: its first word is the call, and each word behind it is `name=value`, or the call's number alone. `#` begins a comment.
 -- A call takes the fields that it uses, each at most once, and one that uses the number needs it; `record` takes every field, and needs the code.
 -- Where a line is wrong, the word that is wrong is told by its place in the line.
-use Rattle.std.specs.Prelude.{ℕ, zero, suc, ◌+◌, ◌-◌, ◌*◌, Bool, true, false, not, ◌&&◌, List, [], ◌∷◌, Option, Some, None, Result, Ok, Err, eqb, ltb, leb, length, take, drop, get_or, set, if◌then◌else◌}
+use Rattle.std.specs.Prelude.{ℕ, zero, suc, ◌+◌, ◌-◌, ◌*◌, Bool, true, false, not, ◌&&◌, List, [], ◌∷◌, Option, Some, None, Result, Ok, Err}
+use Rattle.std.specs.Prelude.{eqb, ltb, leb, length, take, drop, set, if◌then◌else◌}
+use Rattle.std.specs.Str.{bytes_eq}
+use Rattle.sheet_text.specs.Fields.{field, value_at, ask_at}
 use Rattle.sheet_text.specs.Find.{index_of}
 use Rattle.sheet_lines.specs.declared.Record.{Record}
 use Rattle.sheet_lines.specs.Text.{bytes_of}
@@ -60,19 +63,12 @@ span_at at text = record { from = word_from at text; to = word_to at text }
 abbrev pub next_word : ℕ → List ℕ → Option Span
 next_word at text = if eqb (word_size text) 0 then None else Some (span_at at text)
 
--- whether two words are the same
-unfoldable pub same_bytes : List ℕ → List ℕ → Bool
-same_bytes [] [] = true
-same_bytes [] (b ∷ bs) = false
-same_bytes (a ∷ as') [] = false
-same_bytes (a ∷ as') (b ∷ bs) = eqb a b && same_bytes as' bs
-
 -- the place of a word in a list of names, from 0, of which there are at most as many as steps are left; how many there are where it is none of them
 unfoldable pub place_in : ℕ → List ℕ → List ℕ → ℕ
 place_in zero names w = 0
 place_in (suc left) names w =
     if eqb (word_size names) 0 then 0 else
-    if same_bytes w (word names) then 0 else
+    if bytes_eq w (word names) then 0 else
     suc (place_in left (behind names) w)
 
 abbrev pub word_place : List ℕ → List ℕ → ℕ
@@ -113,25 +109,11 @@ most field =
 abbrev pub ask : Bool → Ask → Ask
 ask used what = if used then what else Ask.No
 
-abbrev pub field : ℕ → Ask → Field
-field value ask = record { value = value; ask = ask }
-
--- a field by its place
-abbrev pub field_at : List Field → ℕ → Field
-field_at fields k = get_or fields k (field 0 Ask.No)
-
-abbrev pub value_at : List Field → ℕ → ℕ
-value_at fields k = (field_at fields k).value
-
-abbrev pub ask_at : List Field → ℕ → Ask
-ask_at fields k = (field_at fields k).ask
-
 -- a call before its fields are read: what it asks of each, and the values that count where a line does not name them. Of a pin its word says allow
 unfoldable pub plain_call : ℕ → ℕ → Begun
-plain_call code allow = record {
-  fields = field code Ask.No ∷ field allow (ask (eqb code 2) Ask.May) ∷ field 0 (ask (uses code 5) Ask.May) ∷ field 0 (ask (uses code 3) Ask.May)
-      ∷ field 0 (ask (uses code 4) Ask.Must) ∷ field 0 (ask (uses code 5) Ask.May) ∷ field 0 (ask (uses code 5) Ask.May) ∷ [];
-}
+plain_call code allow =
+    field code Ask.No ∷ field allow (ask (eqb code 2) Ask.May) ∷ field 0 (ask (uses code 5) Ask.May) ∷ field 0 (ask (uses code 3) Ask.May)
+    ∷ field 0 (ask (uses code 4) Ask.Must) ∷ field 0 (ask (uses code 5) Ask.May) ∷ field 0 (ask (uses code 5) Ask.May) ∷ []
 
 -- the calls, in the order of their codes from 1; `unpin` is call 7 too, with allow 0; `record` names its code
 abbrev pub call_names : List ℕ
@@ -144,7 +126,7 @@ call_of w = word_place call_names w
 unfoldable pub begin : ℕ → Begun
 begin call =
     if eqb call 10 then
-    record { fields = field 1 Ask.Must ∷ field 0 Ask.May ∷ field 0 Ask.May ∷ field 0 Ask.May ∷ field 0 Ask.May ∷ field 0 Ask.May ∷ field 0 Ask.May ∷ [] } else
+    field 1 Ask.Must ∷ field 0 Ask.May ∷ field 0 Ask.May ∷ field 0 Ask.May ∷ field 0 Ask.May ∷ field 0 Ask.May ∷ field 0 Ask.May ∷ [] else
     if eqb call 9 then plain_call 7 0 else
     if eqb call 1 then plain_call 2 1 else
     if eqb call 6 then plain_call 7 1 else
@@ -160,10 +142,10 @@ named Ask.Was go = Err Why.Twice
 
 -- a call with a field
 unfoldable pub with_value : Begun → ℕ → ℕ → Result Begun Why
-with_value b k v = named (ask_at b.fields k) (
+with_value b k v = named (ask_at b k) (
     if ltb v (least k) then Err Why.Range else
     if ltb (most k) v then Err Why.Range else
-    Ok (record { fields = set b.fields k (field v Ask.Was) }))
+    Ok (set b k (field v Ask.Was)))
 
 -- with a word: the number, or what stands before and behind `=`
 unfoldable pub with_word : Begun → List ℕ → Result Begun Why
@@ -194,7 +176,7 @@ met Ask.Was call go = go
 
 -- a call with all its words: what it must name is named; its first word is told
 unfoldable pub finished : Begun → Span → Result Record Fault
-finished b call = met (ask_at b.fields 0) call (met (ask_at b.fields 4) call (Ok (record_of b.fields)))
+finished b call = met (ask_at b 0) call (met (ask_at b 4) call (Ok (record_of b)))
 
 -- goes on with a call, or tells the word that is wrong
 abbrev pub going : Result Begun Why → Span → (Begun → Result Record Fault) → Result Record Fault
@@ -219,10 +201,6 @@ unfoldable pub line_says : List ℕ → Result (Option Record) Fault
 line_says line = text_says (take (index_of 35 line) line)
 
 -- ---- what holds of every line
--- the values are in their ranges
-unfoldable pub within : List Field → Bool
-within fields = ltb 0 (value_at fields 0) && leb (value_at fields 0) 9 && leb (value_at fields 2) 255 && leb (value_at fields 3) 15 && leb (value_at fields 4) 4294967295
-
 -- a word that is wrong stands in the line
 abbrev pub in_line : ℕ → Fault → Bool
 in_line size fault = leb fault.word.from fault.word.to && leb fault.word.to size

@@ -1,17 +1,19 @@
 // SPDX-License-Identifier: Apache-2.0
 // A line of a run sheet's text form read (sheets/README.md): one call a line, with names for fields. Crate `sheet_show` has the way back.
+// `as usize`, `as u8`: there is no `From` of u64 or usize for these, and `try_from` could fail.
 #![tactic(auto)]
 
-ghost use Rattle.std.specs.Prelude.{◌≡◌, true, ◌+◌, ◌*◌, ◌^◌, SomeIff, ◌≤◌, ◌<◌, length, drop, MatchOption, IfSome, IfOk};
+ghost use Rattle.std.specs.Prelude.{◌≡◌, true, ◌+◌, ◌*◌, ◌^◌, SomeIff, ◌≤◌, ◌<◌, length, drop, MatchOption, IfSome};
 ghost use Rattle.sheet_text.specs.Find.{index_of};
 ghost use Rattle.sheet_text.specs.Parse.{is_blank, counts_as, run_of, next_word, word_place, number_of, field_of, least, most};
 ghost use Rattle.sheet_text.specs.Parse.{ask, plain_call, call_of, begin, with_value, with_word, record_of, finished, with_words, text_says};
-ghost use Rattle.sheet_text.specs.Parse.{line_says, within, good_call, good_line};
+ghost use Rattle.sheet_text.specs.Parse.{line_says, good_call, good_line};
 
 use key::CacheKey;
 use sheet_lines::Record;
 use sheet_uses::uses;
 use std::fmt;
+use std::marker::Model;
 
 // What can be wrong with a line.
 #[derive(Clone, Copy, Debug, PartialEq, Eq)]
@@ -57,7 +59,7 @@ pub struct Fault {
     pub word: Span,
 }
 
-// What a line asks of a field: it may not be named, or it may, it must, it was.
+// What a line asks of a field: it may not be named, or it may, it must, it was. Four states of a field, where an `Option` has two.
 #[derive(Clone, Copy)]
 enum Ask {
     No,
@@ -73,10 +75,22 @@ struct Field {
     ask: Ask,
 }
 
-// A call with the fields read so far, as document 01 orders them.
-#[derive(Clone, Copy)]
+// A call with the fields read so far, as document 01 orders them. Clauses see the fields. Their values are in their ranges.
+#[derive(Drop)]
 struct Begun {
     fields: [Field; 7],
+}
+
+impl Model for Begun {
+    ghost use Rattle.std.specs.Prelude.{List, ◌≡◌, true};
+    ghost use Rattle.sheet_text.specs.declared.Field.{Field};
+    ghost use Rattle.sheet_text.specs.Fields.{within};
+
+    ghost Value = { List Field };
+
+    ghost view = { λ b. b.fields };
+
+    ghost invariant = { λ b. within b.fields ≡ true };
 }
 
 // The places of the fields stay numbers: they index the fields, and `sheet_uses` has document 01's numbers.
@@ -137,6 +151,7 @@ fn with_digit(n: u64, digit: u64) -> Option<u64>
 }
 
 // The number that a word's digits say.
+#[tactic(auto, using(crate::proofs::Laws::number_begins, crate::proofs::Laws::digit_none, crate::proofs::Laws::digit_large, crate::proofs::Laws::digit_goes, crate::proofs::Laws::digits_end), unfolding(crate::specs::Parse::number_of))]
 fn number_of(word: &[u8]) -> Result<u64, Why>
     ensures { result ≡ number_of word.now }
 {
@@ -174,6 +189,7 @@ fn next_word(text: &[u8], at: usize) -> Option<Span>
 // ---- fields
 
 // The place of a word in a list of names; how many there are where it is none of them.
+#[tactic(auto, using(crate::proofs::Laws::names_none, crate::proofs::Laws::names_here, crate::proofs::Laws::names_more, crate::proofs::Laws::names_end))]
 fn place_in(names: &[u8], word: &[u8]) -> usize
     ensures { result ≡ word_place names.now word.now }
 {
@@ -191,7 +207,7 @@ fn place_in(names: &[u8], word: &[u8]) -> usize
     names.len()
 }
 
-// The field of a name; `slot` is another name of the number.
+// The field of a name; `slot` is another name of the number. Tests on numbers: a name's place in the list is the field's in a record.
 #[tactic(auto, using(basics::proofs::Tests::tests), unfolding(crate::specs::Parse::field_of, sheet_lines::specs::Text::bytes_of))]
 fn field_of(name: &[u8]) -> Option<usize>
     ensures { MatchOption result (6 < field_of name.now) (λ field. (field ≤ 6) × (field ≡ field_of name.now)) }
@@ -233,11 +249,10 @@ fn if_used(used: bool, what: Ask) -> Ask
 }
 
 // A call of which no field is named yet: it takes the fields that it uses, and needs the number that it uses. Of a pin its word says allow.
-#[tactic(auto, using(basics::proofs::Tests::tests), unfolding(crate::specs::Parse::plain_call, crate::specs::Parse::within))]
+#[tactic(auto, using(basics::proofs::Tests::tests), unfolding(crate::specs::Parse::plain_call, crate::specs::Fields::within))]
 fn plain(code: u8, allow: u64) -> Begun
     requires { (0 < code) × (code ≤ 9) }
-    ensures value { result ≡ plain_call code allow }
-    ensures within { within result.fields ≡ true }
+    ensures { result ≡ plain_call code allow }
 {
     let key = if_used(uses(code, FILE), Ask::May);
     let place = if_used(uses(code, PLACE), Ask::May);
@@ -268,10 +283,9 @@ fn plain(code: u8, allow: u64) -> Begun
 }
 
 // A `record` takes every field and needs the code.
-#[tactic(auto, using(basics::proofs::Tests::tests), unfolding(crate::specs::Parse::begin, crate::specs::Parse::within))]
+#[tactic(auto, using(basics::proofs::Tests::tests), unfolding(crate::specs::Parse::begin, crate::specs::Fields::within))]
 fn any_call() -> Begun
-    ensures value { result ≡ begin 10 }
-    ensures within { within result.fields ≡ true }
+    ensures { result ≡ begin 10 }
 {
     let may = Field {
         value: 0,
@@ -286,11 +300,10 @@ fn any_call() -> Begun
     }
 }
 
-// The call of a word, in the order of the codes from 1, then `unpin` and `record`.
+// The call of a word, in the order of the codes from 1, then `unpin` and `record`. Tests on numbers: a word's place in the list gives its code.
 #[tactic(auto, using(basics::proofs::Tests::tests), unfolding(crate::specs::Parse::begin, crate::specs::Parse::call_of, sheet_lines::specs::Text::bytes_of))]
 fn begin(word: &[u8]) -> Option<Begun>
-    ensures value { MatchOption result (10 < call_of word.now) (λ begun. (call_of word.now ≤ 10) × (begun ≡ begin (call_of word.now))) }
-    ensures within { IfSome result (λ begun. within begun.fields ≡ true) }
+    ensures { MatchOption result (10 < call_of word.now) (λ begun. (call_of word.now ≤ 10) × (begun ≡ begin (call_of word.now))) }
 {
     let call = place_in(
         b"new access publish abort lookup remove pin resize reclaim unpin record",
@@ -313,9 +326,8 @@ fn begin(word: &[u8]) -> Option<Begun>
 // A call with a field.
 #[tactic(auto, using(crate::proofs::Laws::within_set, basics::proofs::Tests::tests), unfolding(crate::specs::Parse::with_value))]
 fn with_value(mut begun: Begun, field: usize, value: u64) -> Result<Begun, Why>
-    requires { (field ≤ 6) × (within begun.fields ≡ true) }
-    ensures value { result ≡ with_value begun field value }
-    ensures within { IfOk result (λ next. within next.fields ≡ true) }
+    requires { field ≤ 6 }
+    ensures { result ≡ with_value begun field value }
 {
     match begun.fields[field].ask {
         Ask::No => return Err(Why::Unused),
@@ -333,10 +345,9 @@ fn with_value(mut begun: Begun, field: usize, value: u64) -> Result<Begun, Why>
 }
 
 // With a word: `name=value`, or the number alone.
+#[tactic(auto, using(crate::proofs::Laws::word_number, crate::proofs::Laws::word_no_field, crate::proofs::Laws::word_field))]
 fn with_word(begun: Begun, word: &[u8]) -> Result<Begun, Why>
-    requires { within begun.fields ≡ true }
-    ensures value { result ≡ with_word begun word.now }
-    ensures within { IfOk result (λ next. within next.fields ≡ true) }
+    ensures { result ≡ with_word begun word.now }
 {
     let at = find(word, b'=');
     if at == word.len() {
@@ -349,10 +360,10 @@ fn with_word(begun: Begun, word: &[u8]) -> Result<Begun, Why>
 }
 
 #[tactic(auto, using(crate::proofs::Laws::within_parts), unfolding(crate::specs::Parse::record_of))]
-fn record_of(fields: [Field; 7]) -> Record
-    requires { within fields ≡ true }
-    ensures { result ≡ record_of fields }
+fn record_of(begun: &Begun) -> Record
+    ensures { result ≡ record_of begun.now }
 {
+    let fields = &begun.fields;
     Record {
         code: fields[CODE].value as u8,
         allow: fields[ALLOW].value == 1,
@@ -369,7 +380,7 @@ fn record_of(fields: [Field; 7]) -> Record
 // A call with all its words.
 #[tactic(auto, using(crate::proofs::Laws::good_values, basics::proofs::Tests::tests), unfolding(crate::specs::Parse::finished))]
 fn finished(begun: Begun, call: Span) -> Result<Record, Fault>
-    requires { (within begun.fields ≡ true) × (call.from ≤ call.to) }
+    requires { call.from ≤ call.to }
     ensures value { result ≡ finished begun call }
     ensures good { good_call call.to result ≡ true }
 {
@@ -381,12 +392,13 @@ fn finished(begun: Begun, call: Span) -> Result<Record, Fault>
             word: call,
         });
     }
-    Ok(record_of(begun.fields))
+    Ok(record_of(&begun))
 }
 
 // A call with the words behind it, which begin at a place of the text.
+#[tactic(auto, using(crate::proofs::Laws::words_none, crate::proofs::Laws::words_wrong, crate::proofs::Laws::words_more, crate::proofs::Laws::words_end))]
 fn with_words(begun: Begun, call: Span, text: &[u8], start: usize) -> Result<Record, Fault>
-    requires within { (within begun.fields ≡ true) × (call.from ≤ call.to) × (call.to ≤ length text.now) }
+    requires call_in_bounds { (call.from ≤ call.to) × (call.to ≤ length text.now) }
     requires start_in_bounds { start ≤ length text.now }
     ensures value { result ≡ with_words (length text.now) begun call start (drop start text.now) }
     ensures good { good_call (length text.now) result ≡ true }
@@ -408,6 +420,7 @@ fn with_words(begun: Begun, call: Span, text: &[u8], start: usize) -> Result<Rec
 }
 
 // What a line says, without its comment.
+#[tactic(auto, using(crate::proofs::Laws::text_none, crate::proofs::Laws::text_no_call, crate::proofs::Laws::text_call))]
 fn text_says(text: &[u8]) -> Result<Option<Record>, Fault>
     ensures value { result ≡ text_says text.now }
     ensures good { good_line (length text.now) result ≡ true }
@@ -421,10 +434,11 @@ fn text_says(text: &[u8]) -> Result<Option<Record>, Fault>
             word: call,
         });
     };
-    Ok(Some(with_words(begun, call, text, call.to)?))
+    with_words(begun, call, text, call.to).map(Some)
 }
 
 // What a line says, which is handed over without its end: a call, nothing (an empty line, or only a comment), or what is wrong with it.
+#[tactic(auto, unfolding(crate::specs::Parse::line_says))]
 pub fn parse_line(line: &[u8]) -> Result<Option<Record>, Fault>
     ensures value { result ≡ line_says line.now }
     ensures good { good_line (length line.now) result ≡ true }

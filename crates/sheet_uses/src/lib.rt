@@ -1,5 +1,6 @@
 // SPDX-License-Identifier: Apache-2.0
 // The fields that a call of a run sheet uses, and the records where every other field is 0.
+// `as u64`: there is no `From` between usize and u64, and `try_from` could fail.
 #![tactic(auto)]
 
 ghost use Rattle.std.specs.Prelude.{◌≡◌};
@@ -39,8 +40,9 @@ pub fn uses_number(code: u8) -> bool
     code == 1 || 5 < code
 }
 
-// Whether a call uses a field, by document 01's order: 0 code, 1 allow, 2 kind, 3 place, 4 number, 5 file, 6 index. The code is no field of its own. A
-// number and no enum: the rule `uses` is on numbers, and reads any other as the key's.
+// Whether a call uses a field, by document 01's order: 0 code, 1 allow, 2 kind, 3 place, 4 number, 5 file, 6 index. The code is no field of its own.
+// Numbers and no enums: the rule `uses` is on numbers, and reads any other field as the key's; the codes are document 01's, and a record may have any
+// byte as its code.
 #[tactic(auto, using(basics::proofs::Tests::tests), unfolding(crate::specs::Uses::uses))]
 pub fn uses(code: u8, field: usize) -> bool
     ensures { result ≡ uses code field }

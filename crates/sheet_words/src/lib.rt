@@ -2,46 +2,31 @@
 // A line of document 01's run sheets written: the number of the record, the word, its number, the clean slots and the loading ones.
 #![tactic(auto)]
 
-ghost use Rattle.std.specs.Prelude.{◌≡◌, ◌∷◌, ◌++◌, ◌+◌, ◌≤◌, ◌<◌, length};
-ghost use Rattle.sheet_lines.specs.Text.{decimal};
+ghost use Rattle.std.specs.Prelude.{◌≡◌, ◌++◌, ◌+◌, ◌≤◌, length};
+ghost use Rattle.arrayvec.specs.ArrayVec.{array_vec_len};
 ghost use Rattle.sheet_lines.specs.Words.{word_of, number_of, tail_of, line_of, text_of};
 
+use arrayvec::ArrayVec;
+use itoa::Integer;
 use sheet_lines::{Line, Said, is_bad};
 
-// A byte in front of a line.
-fn front(mut line: Line, byte: u8) -> Line
-    requires { (0 < line.from) × (line.from ≤ 96) }
-    ensures result_value { text_of result ≡ byte ∷ text_of line }
-    ensures from_value { result.from + 1 ≡ line.from }
+// Some bytes behind a text.
+pub fn put<const N: usize>(text: &mut ArrayVec<u8, N>, word: &[u8])
+    requires { array_vec_len text.old + length word.now ≤ N }
+    ensures text_value { text_of text.new ≡ text_of text.old ++ word.now }
+    ensures len_value { array_vec_len text.new ≡ array_vec_len text.old + length word.now }
 {
-    line.from -= 1;
-    line.bytes[line.from] = byte;
-    line
+    text.try_extend_from_slice(word).unwrap();
 }
 
-// A number in front of it, in decimal.
-#[tactic(auto, using(sheet_lines::proofs::Bytes::decimal_same, sheet_lines::proofs::Bytes::decimal_length))]
-fn digits(mut line: Line, number: u64) -> Line
-    requires { (20 ≤ line.from) × (line.from ≤ 96) }
-    ensures result_value { text_of result ≡ decimal number ++ text_of line }
-    ensures from_bound { (line.from ≤ result.from + 20) × (result.from ≤ line.from) }
+// A number behind it, in decimal.
+pub fn put_number<const N: usize, I: Integer>(text: &mut ArrayVec<u8, N>, number: I)
+    requires { array_vec_len text.old + I.MAX_STR_LEN ≤ N }
+    ensures text_value { text_of text.new ≡ text_of text.old ++ I.text number }
+    ensures len_bound { array_vec_len text.new ≤ array_vec_len text.old + I.MAX_STR_LEN }
 {
-    let to = line.from;
-    line.from = itoa::write_digits(number, &mut line.bytes, to);
-    line
-}
-
-// Some bytes in front of it.
-fn put(mut line: Line, text: &[u8]) -> Line
-    requires { (length text.now ≤ line.from) × (line.from ≤ 96) }
-    ensures result_value { text_of result ≡ text.now ++ text_of line }
-    ensures text_value { result.from + length text.now ≡ line.from }
-{
-    let to = line.from;
-    let from = to - text.len();
-    line.bytes[from..to].copy_from_slice(text);
-    line.from = from;
-    line
+    let mut digits = itoa::Buffer::new();
+    put(text, digits.format(number).as_bytes());
 }
 
 // The word of a line.
@@ -67,11 +52,12 @@ fn word_of(said: Said) -> &'static [u8]
     }
 }
 
-// The word's number, or `-`, in front of a line.
-fn put_number(line: Line, said: Said) -> Line
-    requires { (20 ≤ line.from) × (line.from ≤ 96) }
-    ensures result_value { text_of result ≡ number_of said ++ text_of line }
-    ensures from_bound { (line.from ≤ result.from + 20) × (result.from ≤ line.from) }
+// The word's number, or `-`, behind a line.
+#[tactic(auto, using(sheet_lines::proofs::Bytes::decimal_same))]
+fn put_number_of(line: &mut Line, said: Said)
+    requires { array_vec_len line.old + 20 ≤ 96 }
+    ensures text_value { text_of line.new ≡ text_of line.old ++ number_of said }
+    ensures len_bound { array_vec_len line.new ≤ array_vec_len line.old + 20 }
 {
     match said {
         Said::Made(number)
@@ -79,41 +65,40 @@ fn put_number(line: Line, said: Said) -> Line
         | Said::Reserved(number)
         | Said::Evicted(number)
         | Said::Resized(number)
-        | Said::Reclaimed(number) => digits(line, number as u64),
-        Said::Refused(why) => digits(line, u64::from(why)),
+        | Said::Reclaimed(number) => put_number(line, number),
+        Said::Refused(why) => put_number(line, why),
         Said::Loading | Said::Busy | Said::Done | Said::Nothing | Said::Unchanged | Said::Bad => {
-            front(line, b'-')
+            line.push(b'-');
         }
     }
 }
 
 // What stands behind the word: the other three fields, and nothing behind `bad`.
-#[tactic(auto, using(basics::proofs::Tests::tests), unfolding(sheet_lines::specs::Words::tail_of))]
-fn tail_of(said: Said, clean: usize, loading: usize) -> Line
-    ensures result_value { text_of result ≡ tail_of said clean loading }
-    ensures le_from { (32 ≤ result.from) × (result.from ≤ 96) }
+#[tactic(auto, using(std::proofs::lemmas::List::append_assoc, basics::proofs::Tests::tests, sheet_lines::proofs::Bytes::decimal_same), unfolding(sheet_lines::specs::Words::tail_of))]
+fn put_tail(line: &mut Line, said: Said, clean: usize, loading: usize)
+    requires { array_vec_len line.old + 64 ≤ 96 }
+    ensures { text_of line.new ≡ text_of line.old ++ tail_of said clean loading }
 {
-    let blank = Line {
-        bytes: [0; 96],
-        from: 96,
-    };
-    let end = front(blank, b'\n');
-    if is_bad(said) {
-        return end;
+    if !is_bad(said) {
+        line.push(b' ');
+        put_number_of(line, said);
+        line.push(b' ');
+        put_number(line, clean);
+        line.push(b' ');
+        put_number(line, loading);
     }
-    let fifth = digits(end, loading as u64);
-    let fourth = digits(front(fifth, b' '), clean as u64);
-    let third = put_number(front(fourth, b' '), said);
-    front(third, b' ')
+    line.push(b'\n');
 }
 
 // The line of a record, with the number of clean slots and that of loading ones.
-#[tactic(auto, unfolding(sheet_lines::specs::Words::line_of))]
+#[tactic(auto, using(std::proofs::lemmas::List::append_assoc, sheet_lines::proofs::Bytes::decimal_same), unfolding(sheet_lines::specs::Words::line_of))]
 pub fn line_of(number: u64, said: Said, clean: usize, loading: usize) -> Line
     ensures result_value { text_of result ≡ line_of number said clean loading }
-    ensures from_bound { result.from ≤ 96 }
 {
-    let tail = tail_of(said, clean, loading);
-    let second = put(tail, word_of(said));
-    digits(front(second, b' '), number)
+    let mut line = ArrayVec::new();
+    put_number(&mut line, number);
+    line.push(b' ');
+    put(&mut line, word_of(said));
+    put_tail(&mut line, said, clean, loading);
+    line
 }

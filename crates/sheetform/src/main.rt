@@ -2,7 +2,7 @@
 // Turns the text form of a run sheet into records, and records into text: standard input to standard output. Its argument is what it
 // writes, `records` or `text`. What is wrong with the input, a read or a write that fails, and how the program is used it says on standard
 // error, and ends; what it wrote before stays. What a line says is crate `sheet_text`'s, the line of a record `sheet_show`'s; here are the
-// lines of a block, and the blocks of the input.
+// lines of a block, and the blocks of the input. `as u64`: there is no `From` between usize and u64, and `try_from` could fail.
 #![tactic(auto)]
 
 ghost use Rattle.std.specs.Prelude.{◌≡◌, ◌+◌, ◌-◌, ◌/◌, ◌≤◌, ◌++◌};
@@ -14,6 +14,7 @@ use sheet_text::Fault;
 use std::env::FillError;
 use std::fmt;
 use std::rt::Env;
+use streams::Failed;
 
 // What can be wrong with a line: what it says, its length, or that its record has no room.
 #[derive(Clone, Copy)]
@@ -83,24 +84,27 @@ fn records_of<const N: usize>(
     Ok(())
 }
 
-// The text of a block of records behind what is written, up to the first that is bad: as many as have room. It answers how many, as an error
-// where the next is bad.
-fn text_of<const N: usize>(bytes: &[u8], out: &mut ArrayVec<u8, N>) -> Result<usize, usize>
+// A record that is bad, with the number of records before it in its block.
+#[derive(Clone, Copy)]
+struct Bad {
+    before: usize,
+}
+
+// The text of a block of records behind what is written, up to the first that is bad: as many as have room. It answers how many.
+fn text_of<const N: usize>(bytes: &[u8], out: &mut ArrayVec<u8, N>) -> Result<usize, Bad>
     ensures { out.new.items ≡ out.old.items ++ listed_text ((N - array_vec_len out.old) / 200) bytes.now }
 {
     let room = out.remaining_capacity() / sheet_show::ROOM;
-    for records in 0..room {
-        let at = records * sheet_lines::RECORD;
-        if bytes.len() <= at {
-            return Ok(records);
-        }
-        let Some(call) = sheet_lines::read_record(&bytes[at..]) else {
-            return Err(records);
+    let mut shown = 0;
+    for record in bytes.chunks(sheet_lines::RECORD).take(room) {
+        let Some(call) = sheet_lines::read_record(record) else {
+            return Err(Bad { before: shown });
         };
         let text = sheet_show::show_record(call);
         out.try_extend_from_slice(text.as_slice()).unwrap();
+        shown += 1;
     }
-    Ok(room)
+    Ok(shown)
 }
 
 // To standard error, never into what is written. It is a `Print` of its own, since a word of a line need not be text.
@@ -129,76 +133,64 @@ fn say_wrong<E: Print>(err: &E, reading: &Reading, wrong: Wrong) {
     say(err, b"\n");
 }
 
-// Some text as records, or what is wrong with it. It holds no more records than bytes. The answer is whether another block follows.
+// Some text as records, or what is wrong with it. It holds no more records than bytes.
 fn write_some<R: Print + Eprint, E: Print>(
     rt: &R,
     err: &E,
     reading: &mut Reading,
     text: &[u8],
-) -> bool {
+) -> Result<(), Failed> {
     let mut out: ArrayVec<u8, 98304> = ArrayVec::new();
     let answer = records_of(reading, text, &mut out);
-    if streams::write_out(rt, out.as_slice()).is_err() {
-        return false;
-    }
-    if let Err(wrong) = answer {
+    streams::write_out(rt, out.as_slice())?;
+    answer.map_err(|wrong| {
         say_wrong(err, reading, wrong);
-        return false;
-    }
-    true
+        Failed
+    })
 }
 
-// A block of text. The end of the input ends its last line; a failed read ends the run. The answer is whether another block follows.
-fn text_block<R: Input + Print + Eprint, E: Print>(rt: &R, err: &E, reading: &mut Reading) -> bool {
+// The end of the input ends its last line.
+fn write_records<R: Input + Print + Eprint, E: Print>(rt: &R, err: &E) -> Result<(), Failed> {
     let mut bytes: [u8; 4096] = [0; 4096];
-    let Ok(count) = streams::read_block(rt, &mut bytes) else {
-        return false;
-    };
-    if count == 0 {
-        write_some(rt, err, reading, b"\n");
-        return false;
-    }
-    write_some(rt, err, reading, &bytes[..count])
-}
-
-fn write_records<R: Input + Print + Eprint, E: Print>(rt: &R, err: &E) {
     let mut reading = Reading {
         line: ArrayVec::new(),
         before: 0,
     };
-    for _block in 0..u64::MAX {
-        if !text_block(rt, err, &mut reading) {
-            return;
+    // No `loop`: it needs a measure, and the input has no known end.
+    for _ in 0..u64::MAX {
+        let count = streams::read_block(rt, &mut bytes)?;
+        if count == 0 {
+            return write_some(rt, err, &mut reading, b"\n");
         }
+        write_some(rt, err, &mut reading, &bytes[..count])?;
     }
+    Ok(())
 }
 
-// A block of 128 records has room for the text of each. The answer is the number of the next record, if another block follows.
-fn record_block<R: Input + Print + Eprint, E: Print>(rt: &R, err: &E, number: u64) -> Option<u64> {
+// A block of 128 records has room for the text of each.
+fn write_text<R: Input + Print + Eprint, E: Print>(rt: &R, err: &E) -> Result<(), Failed> {
     let mut bytes: [u8; 3072] = [0; 3072];
     let mut out: ArrayVec<u8, 25600> = ArrayVec::new();
-    let count = streams::read_block(rt, &mut bytes).ok()?;
-    let listed = text_of(&bytes[..count], &mut out);
-    streams::write_out(rt, out.as_slice()).ok()?;
-    match listed {
-        Ok(records) if 0 < count => Some(number.wrapping_add(records as u64)),
-        Ok(_) => None,
-        Err(records) => {
-            let bad = number.wrapping_add(records as u64);
-            let _ = print!(err; "record {bad}: bad\n");
-            None
-        }
-    }
-}
-
-fn write_text<R: Input + Print + Eprint, E: Print>(rt: &R, err: &E) {
     let mut number: u64 = 0;
-    for _block in 0..u64::MAX {
-        let Some(next) = record_block(rt, err, number) else {
-            return;
-        };
-        number = next;
+    // No `loop`, as above.
+    for _ in 0..u64::MAX {
+        let count = streams::read_block(rt, &mut bytes)?;
+        if count == 0 {
+            break;
+        }
+        let listed = text_of(&bytes[..count], &mut out);
+        streams::write_out(rt, out.as_slice())?;
+        match listed {
+            Ok(shown) => number = number.wrapping_add(shown as u64),
+            Err(bad) => {
+                number = number.wrapping_add(bad.before as u64);
+                let _ = print!(err; "record {number}: bad\n");
+                return Err(Failed);
+            }
+        }
+        out.clear();
     }
+    Ok(())
 }
 
 fn usage<E: Print>(err: &E) {
@@ -208,24 +200,23 @@ fn usage<E: Print>(err: &E) {
     );
 }
 
-// Whether an argument stands at a place, the program's name at 0.
-fn has_argument<R: Env>(rt: &R, place: usize) -> bool {
-    let mut text: [u8; 1] = [0; 1];
-    !matches!(rt.arg(place, &mut text), Err(FillError::NotPresent))
-}
-
 fn main(rt: HostRuntime) {
     let err = rt.stderr();
     let mut word: [u8; 8] = [0; 8];
-    if !has_argument(&rt, 1) || has_argument(&rt, 2) {
+    // A second argument, whatever its text.
+    if !matches!(rt.arg(2, &mut []), Err(FillError::NotPresent)) {
         usage(&err);
         return;
     }
-    // A longer word is neither of the two.
+    // No word, or a longer one, is neither of the two.
     let len = rt.arg(1, &mut word).unwrap_or(0);
-    match &word[..len] {
+    // What failed or was wrong was told.
+    let _ = match &word[..len] {
         b"records" => write_records(&rt, &err),
         b"text" => write_text(&rt, &err),
-        _ => usage(&err),
-    }
+        _ => {
+            usage(&err);
+            Ok(())
+        }
+    };
 }

@@ -10,9 +10,9 @@ use lib.Dec.{leb, ltb, eqb}
 use borrow.Author.Tests.{ltb-true, leb-true, eqb-true, eqb-false, lt-ltb, le-leb, eq-eqb, ne_eqb}
 use Rattle.basics.specs.Try.{Try, ok, refuse, ◌>>◌}
 use Rattle.basics.specs.declared.Refusal.{Refusal}
-use Rattle.basics.specs.Answers.{Fine, done, number, answer}
+use Rattle.basics.specs.Answers.{Fine, done, answer}
 use Rattle.basics.specs.Capacity.{need_capacity}
-use Rattle.basics.proofs.Tests.{yes!, no!, is, and_left, and_right}
+use Rattle.basics.proofs.Tests.{yes!, no!, is, and_left, and_right, refuse_ok}
 use Rattle.basics.proofs.Capacities.{capacity_fits, capacity_allowed}
 use Rattle.key.specs.Bucket.{bucket_count, count_for}
 use Rattle.key.proofs.Least.{some_bucket, few_buckets}
@@ -56,7 +56,7 @@ sound_sizes_lem {c} {buckets} {vacant} {held} e =
 -- a check that let pass
 checked : {A : Type 0} (x : Try Fine) (r : Try A) (a : A) → (x >> r) ≡ ok a → (x ≡ ok done) × (r ≡ ok a)
 checked (ok done) r a e = (refl, e)
-checked (refuse k) r a e = let z : ◌≡◌ {A = ℕ} 0 1 = cc in absurd (omega arith)
+checked (refuse k) r a e = absurd (refuse_ok e)
 
 -- the first three tests, by what the bucket count of the capacity, or what refused it, was found to be
 pub sizes_told : (c buckets : ℕ) (f : Refusal → Refusal → Bool) (r : Result ℕ Refusal) → answer r ≡ count_for c → ltb 0 c && leb c 256 && eqb buckets (bucket_count c) ≡ result_eq nat_eq f r (Ok buckets)
@@ -75,8 +75,6 @@ sizes_told c buckets f (Err why) e =
       | yes! v ↦ elim (is (leb c 256)) [
         | no! w ↦ rw (v, w)
         | yes! w ↦
-            let g : ◌≡◌ {A = Try ℕ} (refuse (number why)) (ok (bucket_count c)) = rw (capacity_allowed c (ltb-true _ _ v) (leb-true _ _ w)) at e in
-            let z : ◌≡◌ {A = ℕ} 0 1 = cc in
-            absurd (omega arith)
+            absurd (refuse_ok {a = bucket_count c} (rw (capacity_allowed c (ltb-true _ _ v) (leb-true _ _ w)) at e))
       ]
     ]

@@ -12,7 +12,6 @@ ghost use Rattle.state.specs.Access.{choose as choose_rule};
 ghost use Rattle.state.specs.Victim.{victim as victim_rule, target as target_rule};
 
 use basics::Refusal;
-use eviction::EvictionHeap;
 use key::CacheKey;
 use state::State;
 
@@ -21,15 +20,10 @@ pub const PLACES: usize = 64;
 
 // The first unpinned slot among the first min(clean, 64) heap places.
 #[tactic(auto, unfolding(state::specs::Victim::victim))]
-pub fn victim(
-    capacity: usize,
-    heap: &EvictionHeap,
-    clean: usize,
-    pins: &[u8],
-) -> Result<Option<usize>, Refusal>
-    ensures { found_answer result ≡ victim_rule capacity heap.now clean pins.now }
+pub fn victim(t: &State, pins: &[u8]) -> Result<Option<usize>, Refusal>
+    ensures { found_answer result ≡ victim_rule t.now.capacity t.now.eviction t.now.clean pins.now }
 {
-    heap.victim(capacity, clean.min(PLACES), pins)
+    t.eviction.victim(t.capacity, t.clean.min(PLACES), pins)
 }
 
 // The top of the free stack, else a victim.
@@ -38,7 +32,7 @@ fn target(t: &State, pins: &[u8]) -> Result<Option<usize>, Refusal>
     ensures { found_answer result ≡ target_rule t.now.capacity t.now.index t.now.eviction t.now.clean pins.now }
 {
     match t.index.vacant(t.capacity)? {
-        None => victim(t.capacity, &t.eviction, t.clean, pins),
+        None => victim(t, pins),
         top => Ok(top),
     }
 }

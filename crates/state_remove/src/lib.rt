@@ -3,13 +3,13 @@
 // Ported from src/fs/cache/state/mod.rs of HypeR-Proj/kernel at 53afd06a1d, changed; see NOTICE.
 
 // state/mod.rs, the calls that take a clean key out of the table: remove_clean, which counts an eviction, and detach_clean, which does
-// not. Every call works on any table; a refusal hands the table back as it came.
+// not. Every call works on any table; a refusal hands the table back as it came. `detach` and `remove` require a capacity of at most 256, which their
+// callers have tested: a type for tested tables would ask more of these than the number, and owe it after every change.
 #![tactic(auto)]
 
 ghost use Rattle.std.specs.Prelude.{◌≡◌, ◌≤◌, true, MatchResult, OnErr, OnOk};
 ghost use Rattle.basics.specs.Try.{ok, refuse};
-ghost use Rattle.basics.specs.Answers.{number};
-ghost use Rattle.state_remove.specs.Answers.{tried};
+ghost use Rattle.basics.specs.Answers.{number, tried};
 ghost use Rattle.state.specs.Answers.{finished_after};
 ghost use Rattle.state.specs.Remove.{detach_clean, remove_clean, need_clean, detach as detach_rule, remove as remove_rule};
 
@@ -52,7 +52,7 @@ pub fn remove(t: &mut State, slot: usize) -> Result<(), Refusal>
 
 // The tests of the table's calls, which know no more of a slot than its number.
 #[tactic(auto, using(basics::proofs::Tests::tests), unfolding(state::specs::Remove::need_clean))]
-fn check_clean(t: &State, slot: usize) -> Result<(), Refusal>
+pub fn check_clean(t: &State, slot: usize) -> Result<(), Refusal>
     ensures value { MatchResult result (λ _. need_clean t.now slot ≡ ok true) (λ why. need_clean t.now slot ≡ refuse (number why)) }
     ensures bound { OnOk result (t.now.capacity ≤ 256) }
 {
@@ -66,7 +66,8 @@ fn check_clean(t: &State, slot: usize) -> Result<(), Refusal>
     Ok(())
 }
 
-// `remove` as the table's call, which takes it by value.
+// `remove` as the table's call, which takes it by value. It and `detach_clean` stay two: one function over the step would need a rule over a step, and
+// definitions of what it asks of one, which are longer than both.
 #[tactic(auto, unfolding(state::specs::Remove::remove))]
 pub fn remove_clean(mut t: State, slot: usize) -> Outcome<()>
     ensures { finished_after result ≡ remove_rule t slot }

@@ -12,7 +12,7 @@ use Rattle.state.specs.declared.Slot.{Slot}
 use Rattle.state_search.specs.Sought.{walk_from, walk_key, find_test, peek_test}
 use Rattle.basics.specs.Refusals.{STOP}
 use Rattle.basics.specs.Numbers.{NONE}
-use Rattle.basics.proofs.Tests.{yes!, no!, is}
+use Rattle.basics.proofs.Tests.{yes!, no!, is, left_suc}
 use Rattle.key.specs.declared.CacheKey.{CacheKey}
 use Rattle.index.specs.Chain.{CHAIN, head_of, next_of}
 use Rattle.state.specs.declared.State.{State}
@@ -26,7 +26,7 @@ pub walk_step : (rule : Slot → Try Bool) (steps : ℕ) (t : State) (s i : ℕ)
     if leb t.capacity s then refuse STOP else
     (rule (slot_at t s) >>= λ here. if here then ok (some s) else walk_from rule (steps - (i + 1)) t (next_of t.index s)))
 unfolding walk_from
-walk_step rule steps t s i l = let e : steps - i ≡ suc (steps - (i + 1)) = omega arith in rw e
+walk_step rule steps t s i l = rw (left_suc steps i l)
 
 pub walk_end : (rule : Slot → Try Bool) (n : ℕ) (t : State) (s : ℕ) → n ≤ 0 → walk_from rule n t s ≡ (if eqb s NONE then ok none else refuse STOP)
 unfolding walk_from

@@ -8,17 +8,18 @@ ghost use Rattle.io.specs.Counts.{IsPrefixLen};
 
 use std::io::Read;
 
-// A read or a write failed, and standard error was told.
+// What ends a program before the end of its input, here a read or a write that failed. Standard error was told.
 #[derive(Clone, Copy, Debug)]
 pub struct Failed;
 
-// Reads until the block is full or the input ends: how many bytes of it were read. Unlike `io::read_full` it tells the end from a failure.
+// Reads until the block is full or the input ends: how many bytes of it were read.
 pub fn read_block<R: Input + Eprint>(rt: &R, block: &mut [u8]) -> Result<usize, Failed>
     ensures prefix_len { IfOk result (λ count. IsPrefixLen count block.new) }
     ensures block_len_unchanged { length block.new ≡ length block.old }
 {
     let mut input = rt.reader();
     let mut count = 0;
+    // `count` is what was read, and no index; std's `read_full` does not tell the end from a failure.
     while count < block.len() {
         match input.read(&mut block[count..]) {
             Ok(0) => break,
@@ -36,7 +37,7 @@ pub fn read_block<R: Input + Eprint>(rt: &R, block: &mut [u8]) -> Result<usize, 
 pub fn write_out<R: Print + Eprint>(rt: &R, text: &[u8]) -> Result<(), Failed>
     ensures { length text.now ≡ 0 → result ≡ Ok tt }
 {
-    if text.len() == 0 {
+    if text.is_empty() {
         return Ok(());
     }
     rt.write_all(text).map_err(|error| {

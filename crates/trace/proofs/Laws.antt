@@ -1,27 +1,15 @@
 -- SPDX-License-Identifier: Apache-2.0
--- Laws of a record's text: a line without its end, and the two ends of the rule. Assumes nothing.
-use Prim.Native.Nat.{ℕ, ◌-◌, ◌≤◌, ◌<◌}
-use native.Mathlib.Omega.{arith}
+-- Laws of a record's text: the two ends of the rule. Assumes nothing.
+use Prim.Native.Nat.{ℕ}
 use mathlib.Core.Path.{◌≡◌}
 use mathlib.Core.Bool.{true, false}
-use mathlib.Core.List.{List, [], ◌∷◌, ◌++◌, append-nil}
-use lib.ListN.{length, take, drop, length-drop, drop_of_length-le}
+use mathlib.Core.List.{[], ◌∷◌, ◌++◌, append-nil}
 use Rattle.sheet_lines.specs.declared.Said.{Said}
 use Rattle.sheet_lines.specs.Text.{NEWLINE}
 use Rattle.sheet_lines.specs.Words.{is_bad, line_of}
 use Rattle.sheet_standing.specs.declared.Standing.{Standing}
 use Rattle.picture_numbers.specs.Numbers.{spaced}
 use Rattle.trace.specs.Record.{front, standing_numbers, record_text}
-
-pub front_none : (l : List ℕ) (from : ℕ) → length l ≤ from → [] ≡ front (drop from l)
-unfolding front
-front_none l from h = rw (drop_of_length-le l h)
-
-pub front_part : (l : List ℕ) (from end : ℕ) → from < length l → end ≡ length l - 1 → take (end - from) (drop from l) ≡ front (drop from l)
-unfolding front
-front_part l from end h e =
-    let n : length (drop from l) - 1 ≡ end - from = rw length-drop (omega arith) in
-    rw n
 
 module _ (number : ℕ) (said : Said) (s : Standing) where
   pub record_bad : is_bad said ≡ true → front (line_of number said s.state.clean s.state.loading) ++ (NEWLINE ∷ []) ≡ record_text number said s

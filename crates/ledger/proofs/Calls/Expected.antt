@@ -5,7 +5,7 @@ use Prim.Native.Nat.{ℕ, ◌<◌, ◌≤◌, min}
 use native.Mathlib.Omega.{arith}
 use mathlib.Core.Path.{◌≡◌, refl, sym, ap, ◌∙◌}
 use mathlib.Core.Logic.{inl, inr}
-use mathlib.Core.Bool.{Bool, true, false, not, ◌&&◌}
+use mathlib.Core.Bool.{Bool, true, false, not, ◌&&◌, false≢true}
 use mathlib.Core.List.{List}
 use mathlib.Core.Option.{Option, none, some}
 use lib.Dec.{ltb, leb, eqb}
@@ -15,7 +15,7 @@ use Rattle.basics.specs.Try.{ok, refuse}
 use Rattle.basics.specs.Refusals.{PINS}
 use Rattle.basics.specs.Lists.{keep, some?, first}
 use Rattle.basics.specs.Members.{In}
-use Rattle.basics.proofs.Tests.{yes!, no!, is, false_true, none_some}
+use Rattle.basics.proofs.Tests.{yes!, no!, is, none_some}
 use Rattle.basics.proofs.Keeps.{hits, fails, look}
 use Rattle.key.specs.declared.CacheKey.{CacheKey}
 use Rattle.key.specs.Key.{same_key}
@@ -63,7 +63,7 @@ module _ (t : State) (l : Ledger) (a : Agree t l) (key : CacheKey) (allow : Bool
     expect_held h i e =
         expect_key_lem (some h) (elim (look (λ (h : Held). same_key h.key key) l.held) [
           | hits g j q f ↦ f ∙ ap {B = Option Held} some (one_key l.held a.orderly.apart g h j i (key_eq g.key key q ∙ sym e))
-          | fails f k ↦ absurd (false_true (sym (k h i) ∙ rw e (same_key_lem key)))
+          | fails f k ↦ absurd (false≢true (sym (k h i) ∙ rw e (same_key_lem key)))
         ])
 
     -- ── an absent key ──
@@ -114,7 +114,7 @@ module _ (t : State) (l : Ledger) (a : Agree t l) (key : CacheKey) (allow : Bool
       let (pos, q) = root_oldest t l a o i le in
       elim (is (eqb j 0)) [
         | yes! e ↦ rw (eqb-true j 0 e) q
-        | no! e ↦ absurd (false_true (sym (n 0 (omega (arith, eqb-false j 0 e))) ∙ ap (slots.unpinned pins) q ∙ u))
+        | no! e ↦ absurd (false≢true (sym (n 0 (omega (arith, eqb-false j 0 e))) ∙ ap (slots.unpinned pins) q ∙ u))
       ]
 
   module _ (lp : length pins ≡ t.capacity) (out : (h : Held) → In h l.held → h.key ≡ key → ⊥) (ea : allow ≡ true) (room : length (chain_of t a.inv key) < CHAIN) (hv : t.index.free_len ≡ 0) where
@@ -154,9 +154,9 @@ module _ (t : State) (l : Ledger) (a : Agree t l) (key : CacheKey) (allow : Bool
                 | yes! z ↦ elim (is (unpinned pins o)) [
                   | yes! u ↦
                       let (pos, w) = root_oldest t l a o i le in
-                      absurd (false_true (sym (n 0 (omega (arith, clean_len a.inv)) pos) ∙ ap (slots.unpinned pins) w ∙ u))
+                      absurd (false≢true (sym (n 0 (omega (arith, clean_len a.inv)) pos) ∙ ap (slots.unpinned pins) w ∙ u))
                   | no! u ↦ elim (pinned_is t l a pins n) [
-                    | all_pinned q ↦ absurd (false_true (sym q ∙ z))
+                    | all_pinned q ↦ absurd (false≢true (sym q ∙ z))
                     | many_pinned q c ↦ rw (ex, z, u, le-leb PINNED (length (keep (λ (o : Held). not (unpinned pins o)) (clean_ones l))) (omega (arith, q))) (inr (tt, refl))
                   ]
                 ]

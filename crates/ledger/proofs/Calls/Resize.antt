@@ -3,7 +3,7 @@
 use Prim.Native.Nat.{ℕ, ◌<◌}
 use native.Mathlib.Omega.{arith}
 use mathlib.Core.Path.{◌≡◌, refl, sym, ap, ◌∙◌}
-use mathlib.Core.Bool.{Bool, true, false, ◌&&◌, ◌||◌}
+use mathlib.Core.Bool.{Bool, true, false, ◌&&◌, ◌||◌, false≢true}
 use mathlib.Core.List.{List}
 use lib.Dec.{ltb, eqb, T}
 use lib.ListN.{length, get_or, replicate}
@@ -12,7 +12,7 @@ use Rattle.basics.specs.Try.{ok}
 use Rattle.basics.specs.Numbers.{NONE}
 use Rattle.basics.specs.Lists.{keep, every}
 use Rattle.basics.specs.Members.{In, here, there}
-use Rattle.basics.proofs.Tests.{yes!, no!, is, false_true}
+use Rattle.basics.proofs.Tests.{yes!, no!, is}
 use Rattle.basics.proofs.Members.{in_none, in_map, map_in}
 use Rattle.basics.proofs.Keeps.{in_keep, keep_in}
 use Rattle.key.specs.Key.{same_key}
@@ -80,7 +80,7 @@ module _ (t : State) (l : Ledger) (a : Agree t l) (pins : List ℕ) (z : Resizin
   all_clean h i =
       elim (shows t l a h i) [
         | as_clean c e b u ↦ (c, e, b, u)
-        | as_loading c e b y q g u m w ↦ absurd (false_true (sym (none_loads t a.inv k.quiet h.slot (below t l a h i)) ∙ e))
+        | as_loading c e b y q g u m w ↦ absurd (false≢true (sym (none_loads t a.inv k.quiet h.slot (below t l a h i)) ∙ e))
       ]
 
   stay_low : (h : Held) → to h < n.capacity → stay h ≡ true
@@ -127,7 +127,7 @@ module _ (t : State) (l : Ledger) (a : Agree t l) (pins : List ℕ) (z : Resizin
         | no! c ↦ bare (none_at new.held x (λ g i e.
             let (h, j, s, q) = was g i in
             let p : to h ≡ x = ap (λ (y : Held). y.slot) (sym q) ∙ e in
-            false_true (sym c ∙ ap (λ (y : ℕ). occupied (slot_at n y)) (sym p) ∙ clean_occupied (slot_at n (to h)) (stayed h j s).clean))) c
+            false≢true (sym c ∙ ap (λ (y : ℕ). occupied (slot_at n y)) (sym p) ∙ clean_occupied (slot_at n (to h)) (stayed h j s).clean))) c
         | yes! c ↦
             let cc = calm_clean n k.calm.inv k.calm.quiet x hx c in
             let s = k.sources x hx cc in
@@ -147,7 +147,7 @@ module _ (t : State) (l : Ledger) (a : Agree t l) (pins : List ℕ) (z : Resizin
         uses = a.uses ∙ sym k.uses;
         generations = a.generations ∙ sym k.generations;
         fit = fit_new;
-        still = λ y i e. let w = a.still y i e in absurd (false_true (sym (none_loads t a.inv k.quiet y.slot w.low) ∙ w.loading));
+        still = λ y i e. let w = a.still y i e in absurd (false≢true (sym (none_loads t a.inv k.quiet y.slot w.low) ∙ w.loading));
       }
 
   still_present : (h : Held) → In h l.held → stay h ≡ true → present new h ≡ true
@@ -160,7 +160,7 @@ module _ (t : State) (l : Ledger) (a : Agree t l) (pins : List ℕ) (z : Resizin
       keeps_keys pins l new
       (λ h i e. elim (k.places h.slot (below t l a h i) (all_clean h i).1) [
         | kept! lt b d u ↦ still_present h i (stay_low h lt)
-        | lost! b d p lt w ↦ absurd (false_true (sym e ∙ p))
+        | lost! b d p lt w ↦ absurd (false≢true (sym e ∙ p))
       ])
       (λ g i. let (h, j, s, q) = was g i in rw q (present_in l (moves h) h j refl refl))
       (λ grows h i. elim (k.places h.slot (below t l a h i) (all_clean h i).1) [

@@ -3,12 +3,12 @@
 -- Assumes nothing.
 use native.Mathlib.Omega.{arith}
 use mathlib.Core.Path.{◌≡◌, refl, sym, ◌∙◌, subst}
-use mathlib.Core.Bool.{true, false}
+use mathlib.Core.Bool.{true, false, false≢true}
 use lib.Dec.{T}
 use Rattle.basics.specs.Try.{refuse}
 use Rattle.basics.specs.Refusals.{STALE}
 use Rattle.basics.specs.Members.{In}
-use Rattle.basics.proofs.Tests.{yes!, no!, is, false_true}
+use Rattle.basics.proofs.Tests.{yes!, no!, is}
 use Rattle.state.specs.declared.State.{State}
 use Rattle.state.specs.declared.LoadToken.{LoadToken}
 use Rattle.state.specs.Slots.{slot_at}
@@ -32,7 +32,7 @@ module _ (t : State) (l : Ledger) (a : Agree t l) where
             let w = outstanding_loads t k e in
             let (h, o, j, q, s) = held_in t l a k.slot w.low (loading_occupied (slot_at t k.slot) w.loading) in
             elim s [
-              | as_clean c f b u ↦ absurd (false_true (sym (loading_not_clean (slot_at t k.slot) w.loading) ∙ f))
+              | as_clean c f b u ↦ absurd (false≢true (sym (loading_not_clean (slot_at t k.slot) w.loading) ∙ f))
               | as_loading c f b y p g u m n ↦ absurd (n (subst (λ (z : LoadToken). In z l.ended) (sym (a.orderly.single y k m i (sym g ∙ w.generation))) d))
             ]
       ]

@@ -1,13 +1,13 @@
 -- SPDX-License-Identifier: Apache-2.0
 -- What is kept of a list, whether one or all of it pass a test, and whether two keys are the same. Assumes nothing.
 use mathlib.Core.Path.{◌≡◌, refl, sym, ap, ◌∙◌}
-use mathlib.Core.Bool.{Bool, true, false}
+use mathlib.Core.Bool.{Bool, true, false, false≢true}
 use mathlib.Core.List.{List, [], ◌∷◌}
 use mathlib.Core.Option.{some}
 use lib.Dec.{T}
 use Rattle.basics.specs.Lists.{keep, every, some?, first}
 use Rattle.basics.specs.Members.{In, here, there}
-use Rattle.basics.proofs.Tests.{yes!, no!, is, false_true, some_same, none_some}
+use Rattle.basics.proofs.Tests.{yes!, no!, is, some_same, none_some}
 use Rattle.basics.proofs.Members.{in_none, in_case}
 use Rattle.basics.proofs.Keeps.{hits, fails, look}
 use Rattle.key.specs.declared.CacheKey.{CacheKey}
@@ -68,7 +68,7 @@ any_is p (a ∷ l) =
     ]
 
 pub some_in : {A : Type 0} (p : A → Bool) (l : List A) (a : A) → In a l → p a ≡ true → some? p l ≡ true
-some_in p l a i e = elim (any_is p l) [ any q b j f ↦ q | nil q n ↦ absurd (false_true (sym (n a i) ∙ e)) ]
+some_in p l a i e = elim (any_is p l) [ any q b j f ↦ q | nil q n ↦ absurd (false≢true (sym (n a i) ∙ e)) ]
 
 pub every_in : {A : Type 0} (p : A → Bool) (l : List A) → ((a : A) → In a l → p a ≡ true) → every p l ≡ true
 unfolding every
@@ -81,4 +81,4 @@ pub data Compared (a b : CacheKey) : Type 0 where
   unlike : same_key a b ≡ false → (a ≡ b → ⊥) → Compared a b
 
 pub compared : (a b : CacheKey) → Compared a b
-compared a b = elim (is (same_key a b)) [ yes! e ↦ alike e (key_eq a b e) | no! e ↦ unlike e (λ q. false_true (sym e ∙ ap (same_key a) (sym q) ∙ same_key_lem a)) ]
+compared a b = elim (is (same_key a b)) [ yes! e ↦ alike e (key_eq a b e) | no! e ↦ unlike e (λ q. false≢true (sym e ∙ ap (same_key a) (sym q) ∙ same_key_lem a)) ]

@@ -2,14 +2,14 @@
 -- The key that a list of keys has in a slot: a map from slots that a key put in, taken out or changed changes at one place. Assumes nothing.
 use Prim.Native.Nat.{ℕ}
 use mathlib.Core.Path.{◌≡◌, refl, sym, ap, ◌∙◌}
-use mathlib.Core.Bool.{Bool, true, false, not, ◌||◌}
+use mathlib.Core.Bool.{Bool, true, false, not, ◌||◌, false≢true}
 use mathlib.Core.List.{List, [], ◌∷◌, map}
 use mathlib.Core.Option.{Option, none, some}
 use lib.Dec.{eqb}
 use borrow.Author.Tests.{eqb-true, eqb-false, eq-eqb, ne_eqb}
 use Rattle.basics.specs.Lists.{keep, some?, first}
 use Rattle.basics.specs.Members.{In}
-use Rattle.basics.proofs.Tests.{yes!, no!, is, false_true}
+use Rattle.basics.proofs.Tests.{yes!, no!, is}
 use Rattle.basics.proofs.Maps.{put}
 use Rattle.basics.proofs.Keeps.{hits, fails, look}
 use Rattle.key.specs.Key.{same_key}
@@ -27,7 +27,7 @@ pub at_in : (hs : List Held) → Apart hs → (h : Held) → In h hs → at hs h
 at_in hs a h m =
     elim (look (in_slot h.slot) hs) [
       | hits g n q f ↦ f ∙ ap {B = Option Held} some (one_slot hs a g h n m (eqb-true g.slot h.slot q))
-      | fails f k ↦ absurd (false_true (sym (k h m) ∙ eq-eqb h.slot h.slot refl))
+      | fails f k ↦ absurd (false≢true (sym (k h m) ∙ eq-eqb h.slot h.slot refl))
     ]
 
 pub in_at : (hs : List Held) (n : ℕ) (h : Held) → at hs n ≡ some h → In h hs × (h.slot ≡ n)

@@ -1,13 +1,13 @@
 -- SPDX-License-Identifier: Apache-2.0
 -- Tokens: the test on them is equality, and a token is among a list or not. Assumes nothing.
 use mathlib.Core.Path.{◌≡◌, refl, sym, ◌∙◌}
-use mathlib.Core.Bool.{true, false, ◌&&◌}
+use mathlib.Core.Bool.{true, false, ◌&&◌, false≢true}
 use mathlib.Core.List.{List}
 use lib.Dec.{eqb}
 use borrow.Author.Tests.{eqb-true, eq-eqb}
 use Rattle.basics.specs.Lists.{some?}
 use Rattle.basics.specs.Members.{In}
-use Rattle.basics.proofs.Tests.{false_true, and_left, and_right}
+use Rattle.basics.proofs.Tests.{and_left, and_right}
 use Rattle.key.specs.Key.{same_key}
 use Rattle.key.proofs.Keys.{same_key_lem, key_eq}
 use Rattle.state.specs.declared.LoadToken.{LoadToken}
@@ -41,5 +41,5 @@ pub among : (k : LoadToken) (l : List LoadToken) → Among k l
 among k l =
     elim (any_is (same_token k) l) [
       | any q a i e ↦ amid q (rw (token_eq k a e) i)
-      | nil q n ↦ away q (λ i. false_true (sym (n k i) ∙ same_token_lem k))
+      | nil q n ↦ away q (λ i. false≢true (sym (n k i) ∙ same_token_lem k))
     ]

@@ -4,11 +4,11 @@
 use Prim.Native.Nat.{ℕ, ◌<◌, ◌≤◌}
 use native.Mathlib.Omega.{arith}
 use mathlib.Core.Path.{◌≡◌, refl, sym, ap, ◌∙◌, subst}
-use mathlib.Core.Bool.{true, false}
+use mathlib.Core.Bool.{true, false, false≢true}
 use mathlib.Core.Option.{Option, none, some}
 use Rattle.basics.specs.Lists.{first}
 use Rattle.basics.specs.Members.{In}
-use Rattle.basics.proofs.Tests.{false_true, some_same, none_some}
+use Rattle.basics.proofs.Tests.{some_same, none_some}
 use Rattle.basics.proofs.Members.{in_none}
 use Rattle.key.specs.declared.CacheKey.{CacheKey}
 use Rattle.state.specs.declared.Slot.{Slot}
@@ -88,7 +88,7 @@ module _ (t : State) (l : Ledger) (a : Agree t l) where
   pub held_in : (x : ℕ) → x < t.capacity → occupied (slot_at t x) ≡ true → (h : Held) × (at l.held x ≡ some h) × In h l.held × (h.slot ≡ x) × Shows l x (slot_at t x) h
   held_in x hx e =
       elim (a.fit x hx) [
-        | bare o q ↦ absurd (false_true (sym q ∙ e))
+        | bare o q ↦ absurd (false≢true (sym q ∙ e))
         | full h o s ↦ (h, o, (in_at l.held x h o).0, (in_at l.held x h o).1, s)
       ]
 
@@ -96,7 +96,7 @@ module _ (t : State) (l : Ledger) (a : Agree t l) where
   bare_at x hx e =
       elim (a.fit x hx) [
         | bare o q ↦ o
-        | full h o s ↦ absurd (false_true (sym e ∙ (shown_key s).0))
+        | full h o s ↦ absurd (false≢true (sym e ∙ (shown_key s).0))
       ]
 
   -- the key of a clean slot
@@ -114,7 +114,7 @@ module _ (t : State) (l : Ledger) (a : Agree t l) where
       let (h, o, i, q, s) = held_in x hx (clean_occupied (slot_at t x) e) in
       elim s [
         | as_clean c d k u ↦ record { held = h; there = o; member = i; slot = q; clean = c; key = k; last = u }
-        | as_loading c d k y p g u z n ↦ absurd (false_true (sym (clean_not_loading (slot_at t x) e) ∙ d))
+        | as_loading c d k y p g u z n ↦ absurd (false≢true (sym (clean_not_loading (slot_at t x) e) ∙ d))
       ]
 
   -- the key of a loading slot
@@ -122,7 +122,7 @@ module _ (t : State) (l : Ledger) (a : Agree t l) where
   loading_in x hx e =
       let (h, o, i, q, s) = held_in x hx (loading_occupied (slot_at t x) e) in
       elim s [
-        | as_clean c d k u ↦ absurd (false_true (sym (loading_not_clean (slot_at t x) e) ∙ d))
+        | as_clean c d k u ↦ absurd (false≢true (sym (loading_not_clean (slot_at t x) e) ∙ d))
         | as_loading c d k y p g u z n ↦ (h, i, c, k)
       ]
 

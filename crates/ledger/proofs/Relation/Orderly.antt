@@ -4,14 +4,13 @@
 use Prim.Native.Nat.{ℕ, ◌+◌, ◌<◌, ◌≤◌}
 use native.Mathlib.Omega.{arith}
 use mathlib.Core.Path.{◌≡◌, refl, sym, ap, ◌∙◌}
-use mathlib.Core.Bool.{Bool, true}
+use mathlib.Core.Bool.{Bool, true, false≢true}
 use mathlib.Core.List.{List, ◌∷◌, map}
 use lib.ListN.{get_or}
 use borrow.Author.Tests.{eq-eqb}
 use Rattle.basics.specs.Numbers.{NONE}
 use Rattle.basics.specs.Lists.{keep}
 use Rattle.basics.specs.Members.{In}
-use Rattle.basics.proofs.Tests.{false_true}
 use Rattle.basics.proofs.Members.{in_none, in_case, map_in}
 use Rattle.basics.proofs.Keeps.{keep_in}
 use Rattle.key.specs.declared.CacheKey.{CacheKey}
@@ -91,7 +90,7 @@ module _ (l : Ledger) (o : Orderly l) where
       record {
         apart = (
           λ g i. let q = keep_in (not_in_held x) l.held g i in
-              (λ e. out g q.0 (sym e), λ e. false_true (sym (rw (eq-eqb g.slot x (sym e)) refl) ∙ q.1), λ e. let z = o.dated g q.0 in omega arith),
+              (λ e. out g q.0 (sym e), λ e. false≢true (sym (rw (eq-eqb g.slot x (sym e)) refl) ∙ q.1), λ e. let z = o.dated g q.0 in omega arith),
           apart_keep (not_in_held x) l.held o.apart,
         );
         inside = λ g i. in_case i (λ q. rw q hx) (λ n. o.inside g (keep_in (not_in_held x) l.held g n).0);

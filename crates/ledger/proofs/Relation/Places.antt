@@ -4,7 +4,7 @@
 use Prim.Native.Nat.{ℕ, ◌<◌, ◌≤◌, min}
 use native.Mathlib.Omega.{arith}
 use mathlib.Core.Path.{◌≡◌, refl, sym, ap, ◌∙◌, subst}
-use mathlib.Core.Bool.{true, false, not}
+use mathlib.Core.Bool.{true, false, not, false≢true}
 use mathlib.Core.List.{List, [], ◌∷◌}
 use mathlib.Core.Option.{none, some}
 use lib.Dec.{ltb, eqb}
@@ -12,7 +12,7 @@ use lib.ListN.{length, get_or, length-map}
 use borrow.Author.Tests.{ltb-true, ltb-false}
 use Rattle.basics.specs.Lists.{down, keep, some?}
 use Rattle.basics.specs.Members.{In, here, there}
-use Rattle.basics.proofs.Tests.{yes!, no!, is, false_true}
+use Rattle.basics.proofs.Tests.{yes!, no!, is}
 use Rattle.basics.proofs.Members.{in_none, in_case, in_map, map_in, inject, down_in}
 use Rattle.basics.proofs.Keeps.{in_keep, keep_in}
 use Rattle.eviction.specs.Entries.{at, pos_of}
@@ -63,7 +63,7 @@ module _ (t : State) (l : Ledger) (a : Agree t l) where
   place_in h i =
       let c = clean_one_lem h i in
       elim (shows t l a h c.0) [
-        | as_loading b e k y q g u m n ↦ absurd (false_true (sym b ∙ c.1))
+        | as_loading b e k y q g u m n ↦ absurd (false≢true (sym b ∙ c.1))
         | as_clean b e k u ↦
             let q = place_of_lem a.inv h.slot (below t l a h c.0) e in
             let j : ℕ = pos_of t.eviction h.slot in
@@ -103,7 +103,7 @@ module _ (t : State) (l : Ledger) (a : Agree t l) where
             let w = ltb-true t.clean PLACES e in
             elim (any_is (unpinned pins) (clean_ones l)) [
               | nil q z ↦ all_pinned q
-              | any q h i f ↦ let (j, hj, b, d) = place_in h i in absurd (false_true (sym (n j (omega arith) hj) ∙ ap (λ (s : ℕ). eqb (get_or pins s 0) 0) b ∙ f))
+              | any q h i f ↦ let (j, hj, b, d) = place_in h i in absurd (false≢true (sym (n j (omega arith) hj) ∙ ap (λ (s : ℕ). eqb (get_or pins s 0) 0) b ∙ f))
             ]
         | no! e ↦
             let w = ltb-false t.clean PLACES e in

@@ -4,7 +4,7 @@
 use Prim.Native.Nat.{ℕ, ◌+◌, ◌<◌}
 use native.Mathlib.Omega.{arith}
 use mathlib.Core.Path.{◌≡◌, refl, sym, ap, ◌∙◌, fun_ext}
-use mathlib.Core.Bool.{true, false}
+use mathlib.Core.Bool.{true, false, false≢true}
 use mathlib.Core.List.{List, [], ◌∷◌, map}
 use mathlib.Core.Option.{Option, none, some}
 use lib.Dec.{eqb}
@@ -12,7 +12,7 @@ use lib.Seq.{get_or-set_same, get_or-set_other}
 use borrow.Author.Tests.{eqb-true, eqb-false, ne_eqb}
 use Rattle.basics.specs.Lists.{keep}
 use Rattle.basics.specs.Members.{In, here, there}
-use Rattle.basics.proofs.Tests.{yes!, no!, is, false_true, none_some}
+use Rattle.basics.proofs.Tests.{yes!, no!, is, none_some}
 use Rattle.basics.proofs.Members.{in_case}
 use Rattle.basics.proofs.Maps.{put, put_put}
 use Rattle.key.specs.declared.CacheKey.{CacheKey}
@@ -99,7 +99,7 @@ same_tokens x l r g e = record { more = λ k i. rw g i; less = λ k i n. rw g at
 module _ {t : State} {l : Ledger} (a : Agree t l) where
   -- no outstanding token has a slot that is not loading
   not_still : (x : ℕ) → is_loading (slot_at t x) ≡ false → {P : Type 0} → (k : LoadToken) → In k l.given → (In k l.ended → ⊥) → k.slot ≡ x → P
-  not_still x e k i n q = absurd (false_true (sym e ∙ ap (λ (y : ℕ). is_loading (slot_at t y)) (sym q) ∙ (a.still k i n).loading))
+  not_still x e k i n q = absurd (false≢true (sym e ∙ ap (λ (y : ℕ). is_loading (slot_at t y)) (sym q) ∙ (a.still k i n).loading))
 
   -- ── a key is used ──
   pub agree_used : (key : CacheKey) {u : State} {x nc nl : ℕ} → is_clean (slot_at t x) ≡ true → (slot_at t x).key ≡ key → Step t u x (clean_slot key (t.next_access_sequence + 1)) (t.next_access_sequence + 1) t.next_load_generation nc nl → Agree u (uses l key)
@@ -151,7 +151,7 @@ module _ {t : State} {l : Ledger} (a : Agree t l) where
         let d = a.still k i n in
         let (h, e, j, q, w) = held_in t l a k.slot d.low (loading_occupied (slot_at t k.slot) d.loading) in
         elim w [
-          | as_clean c f b u ↦ absurd (false_true (sym (loading_not_clean (slot_at t k.slot) d.loading) ∙ f))
+          | as_clean c f b u ↦ absurd (false≢true (sym (loading_not_clean (slot_at t k.slot) d.loading) ∙ f))
           | as_loading c f b y z g u m v ↦
               let yk : y ≡ k = a.orderly.single y k m i (sym g ∙ d.generation) in
               record { held = h; there = e; member = j; slot = q; key = sym b ∙ d.key; last = sym u ∙ ap (λ (w : LoadToken). w.access_sequence) yk }

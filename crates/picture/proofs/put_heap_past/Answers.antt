@@ -6,4 +6,4 @@ use Rattle.picture.proofs.put_heap_past.Goals as goal
 
 pub returns : goal.returns
 unfolding heap_past
-returns c = numbers_joined _ _ c.put_list_past-a.ensures c.put_list_past.ensures
+returns c = numbers_joined _ _ c.put_list_past.ensures c.put_list_past-2.ensures

@@ -8,11 +8,11 @@ use Rattle.picture.proofs.Laws.{below_start, below_more, below_end}
 use Rattle.picture.proofs.put_list.Goals as goal
 
 pub loop-place-init : goal.loop-place-init
-loop-place-init g c = below_start g.T.Place.stand _ _ _ _ (omega arith)
+loop-place-init g c = below_start g.T.Place.stand _ c.put_text.ensures
 
 pub loop-place-preserved : goal.loop-place-preserved
 loop-place-preserved g c =
-    below_more g.T.Place.stand _ _ c.place-item.result (omega arith) c.place-item.is c.loop-place.invariant c.put-to.ensures
+    below_more g.T.Place.stand _ _ c.place-item.result (omega arith) c.place-item.is c.loop-place.invariant c.put.ensures
 
 pub returns : goal.returns
 returns g c =

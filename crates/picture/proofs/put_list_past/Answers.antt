@@ -7,16 +7,16 @@ use native.Mathlib.Omega.{arith}
 use mathlib.Core.Path.{ap}
 use mathlib.Core.Bool.{false}
 use Rattle.picture_numbers.specs.Numbers.{spaced, all_zero}
-use Rattle.picture_numbers.proofs.Laws.{wrote_as, numbers_joined}
+use Rattle.picture_numbers.proofs.Laws.{wrote_as, one_number}
 use Rattle.picture.proofs.Laws.{told_start, place_more, past_end, count_held}
 use Rattle.picture.proofs.put_list_past.Goals as goal
 
 pub loop-i-init : goal.loop-i-init
-loop-i-init g c = told_start g.T.Place.stand _ _ _ c.min-from.result (omega arith)
+loop-i-init g c = told_start g.T.Place.stand (c.count-held.result ∷ []) c.min-from.result (one_number _ (omega arith) c.put.ensures)
 
 pub loop-i-preserved : goal.loop-i-preserved
 loop-i-preserved g c =
-    place_more g.T.Place.stand false c.min-from.result _ _ c.index-behind-i.result (omega arith) c.index-behind-i.is c.loop-i.invariant c.put_place-to.ensures
+    place_more g.T.Place.stand (c.count-held.result ∷ []) false c.min-from.result _ _ c.index-behind-i.result (omega arith) c.index-behind-i.is c.loop-i.invariant c.put_place.ensures
 
 pub returns : goal.returns
 returns g c =
@@ -25,4 +25,4 @@ returns g c =
     let ys = take (length xs - c.min-from.result) (drop c.min-from.result xs) in
     let n : c.count-held.result ≡ count_by (λ x. not (all_zero (f x))) ys = search rules in
     wrote_as (ap spaced (past_end f xs ys c.args.length c.min-from.result c.loop-i.i c.count-held.result (omega arith) (take_rest xs c.min-from.result) (omega arith) (n ∙ count_held f ys)))
-    (numbers_joined (c.count-held.result ∷ []) _ c.put-to.ensures c.loop-i.invariant)
+    c.loop-i.invariant

@@ -6,4 +6,4 @@ use Rattle.picture.proofs.put_past.Goals as goal
 
 pub returns : goal.returns
 unfolding past_numbers
-returns c = numbers_joined _ _ (numbers_joined _ _ c.put_list_past-a.ensures c.put_index_past-b.ensures) c.put_heap_past.ensures
+returns c = numbers_joined _ _ (numbers_joined _ _ c.put_list_past.ensures c.put_index_past.ensures) c.put_heap_past.ensures

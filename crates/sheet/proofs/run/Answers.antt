@@ -1,41 +1,41 @@
 -- SPDX-License-Identifier: Apache-2.0
 -- `sheet::run` meets its contract where a record was read: it was `bad`, or there are more. Assumes nothing.
-use Rattle.std.proofs.Common.{rules, ◌≡◌, ◌+◌, ◌-◌, ◌≤◌, sym, ◌∙◌, ap, arith, length, take, drop}
-use lib.ListN.{length-drop}
-use lib.Seq.{take_all}
-use Rattle.sheet.specs.Run.{run_from, turns}
-use Rattle.sheet.proofs.Runs.{run_bad, run_on, whole, later}
+use Rattle.std.proofs.Common.{rules, ◌∙◌, arith}
+use Rattle.sheet.proofs.Runs.{run_end, run_bad, run_on, later}
 use Rattle.sheet.proofs.run.Goals as goal
 
-pub returns-then-is_bad-clause-out_after : goal.returns-then-is_bad-clause-out_after
-returns-then-is_bad-clause-out_after c =
-    let here = c.loop-number in
-    let given = c.args in
-    let wrote = c.write_record-written in
-    let more : length here.rest.now ≡ 0 → ⊥ = search rules in
-    let steps : given.first + c.turns.result - given.first ≡ turns given.first (length given.out.now) = omega (arith, c.turns.ensures) in
-    run_bad _ _ _ _ _ _ _ c.step-said.ensures c.loop-number-test.true more wrote.ensures.out_after (sym c.if-is_bad.ensures)
-    ∙ here.invariant.text
-    ∙ ap (λ k. run_from k given.standing given.first given.bytes.now) steps
-
-pub slice_bounds-rest-count : goal.slice_bounds-rest-count
-slice_bounds-rest-count c = whole c.loop-number.standing c.loop-number.rest.now _ c.step-said.ensures (sym c.if-is_bad.ensures)
-
-pub slice_bounds-rest-start : goal.slice_bounds-rest-start
-slice_bounds-rest-start c =
-    let h : 24 ≤ length c.loop-number.rest.now = whole c.loop-number.standing c.loop-number.rest.now _ c.step-said.ensures (sym c.if-is_bad.ensures) in
-    search rules
-
-pub loop-number-preserved : goal.loop-number-preserved
-loop-number-preserved c =
-    let here = c.loop-number in
-    let given = c.args in
-    let wrote = c.write_record-written in
-    let more : length here.rest.now ≡ 0 → ⊥ = search rules in
-    let rest : take (length here.rest.now - 24) (drop 24 here.rest.now) ≡ drop 24 here.rest.now = take_all (length here.rest.now - 24) (drop 24 here.rest.now) (simp length-drop (omega arith)) in
+pub loop-record-preserved : goal.loop-record-preserved
+loop-record-preserved c =
+    let here = c.loop-record in
+    let wrote = c.write_record.ensures in
+    let step = c.in-Some.ensures.steps in
+    let kept = run_on _ _ _ _ _ _ _ _ _ _ _ c.step-said.ensures step.1 step.0.1.0 here.invariant.size step.0.1.1 step.0.1.2 wrote.out_after (search rules) in
     record {
-      text = rw rest (run_on _ _ _ _ _ _ _ c.step-said.ensures c.loop-number-test.true more wrote.ensures.out_after (sym c.if-is_bad.ensures)) ∙ here.invariant.text;
-      behind = wrote.ensures.out_unchanged ∙ later here.out given.out.now here.written wrote.result wrote.ensures.lower_bound.0 here.invariant.behind;
-      long = wrote.ensures.out_len_unchanged ∙ here.invariant.long;
-      room = omega (arith, here.invariant.room, wrote.ensures.lower_bound.1);
+      text = kept ∙ here.invariant.text;
+      behind = wrote.out_unchanged ∙ later here.out c.args.out.now here.ran.written c.write_record.result wrote.lower_bound.0 here.invariant.behind;
+      long = wrote.out_len_unchanged ∙ here.invariant.long;
+      room = omega arith;
+      last = omega arith;
+      size = step.0.0 ∙ here.invariant.size;
+      goes = search rules;
     }
+
+pub returns-in-None-clause-out_after : goal.returns-in-None-clause-out_after
+returns-in-None-clause-out_after c =
+    let here = c.loop-record in
+    let step = c.in-None.ensures.steps in
+    rw here.invariant.goes (run_end _ _ _ _ _ (λ h. (step h).1.0)) ∙ here.invariant.text
+
+pub returns-then-ran-clause-out_after : goal.returns-then-ran-clause-out_after
+returns-then-ran-clause-out_after c =
+    let here = c.loop-record in
+    let wrote = c.write_record.ensures in
+    let step = c.in-Some.ensures.steps in
+    let last = run_bad _ _ _ _ _ _ _ _ _ _ _ c.step-said.ensures step.1 step.0.1.0 here.invariant.size step.0.1.1 step.0.1.2 wrote.out_after (search rules) in
+    rw c.if-ran.true last ∙ here.invariant.text
+
+pub returns-then-ran-clause-out_unchanged : goal.returns-then-ran-clause-out_unchanged
+returns-then-ran-clause-out_unchanged c =
+    let here = c.loop-record in
+    let wrote = c.write_record.ensures in
+    wrote.out_unchanged ∙ later here.out c.args.out.now here.ran.written c.write_record.result wrote.lower_bound.0 here.invariant.behind

@@ -5,5 +5,5 @@ use Rattle.sheet_steps.specs.Standing.{no_pins}
 use Rattle.sheet_steps.specs.Steps.{move_pins}
 use Rattle.sheet_steps.proofs.move_pins.Given as goal
 
-abbrev pub invariant-loop-at : goal.invariant-loop-at
-invariant-loop-at l = move_pins (length l.list - l.at) l.old l.list l.at l.pins ≡ move_pins (length l.list) l.old l.list 0 no_pins
+abbrev pub invariant-loop-slot : goal.invariant-loop-slot
+invariant-loop-slot l = move_pins (length l.list - length l.yielded) l.old l.list (length l.yielded) l.pins ≡ move_pins (length l.list) l.old l.list 0 no_pins

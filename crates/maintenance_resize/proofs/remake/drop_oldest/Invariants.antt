@@ -6,7 +6,7 @@ use mathlib.Core.List.{List}
 use Rattle.maintenance_resize.specs.Move.{moving_of, drop_oldest}
 use Rattle.maintenance_resize.proofs.remake.drop_oldest.Given as goal
 
-abbrev pub invariant-loop-round : goal.invariant-loop-round
-invariant-loop-round l =
-    ((list : List ℕ) → drop_oldest (257 - l.round) (moving_of l.old l.new list) ≡ drop_oldest 257 (moving_of l.initial.old l.new list)) ×
+abbrev pub invariant-loop : goal.invariant-loop
+invariant-loop l =
+    ((list : List ℕ) → drop_oldest (257 - l.counter) (moving_of l.old l.new list) ≡ drop_oldest 257 (moving_of l.initial.old l.new list)) ×
     (l.old.capacity ≡ l.initial.old.capacity)

@@ -7,5 +7,5 @@ use Rattle.basics.specs.Lists.{each_slot}
 use Rattle.maintenance_resize.specs.Move.{moving_of, restore_rest}
 use Rattle.maintenance_resize.proofs.remake.restore_rest.Given as goal
 
-abbrev pub invariant-loop-slot : goal.invariant-loop-slot
-invariant-loop-slot l = (list : List ℕ) → each_slot restore_rest (l.old.capacity - l.slot) l.slot (moving_of l.old l.new list) ≡ each_slot restore_rest l.old.capacity 0 (moving_of l.old l.initial.new list)
+abbrev pub invariant-loop-entry : goal.invariant-loop-entry
+invariant-loop-entry l = (list : List ℕ) → each_slot restore_rest (l.old.capacity - l.entry-index) l.entry-index (moving_of l.old l.new list) ≡ each_slot restore_rest l.old.capacity 0 (moving_of l.old l.initial.new list)

@@ -5,5 +5,5 @@ use mathlib.Core.Path.{◌≡◌}
 use Rattle.maintenance_restore.specs.Restore.{candidate}
 use Rattle.maintenance_restore.proofs.restore.candidate.Given as goal
 
-abbrev pub invariant-loop-round : goal.invariant-loop-round
-invariant-loop-round l = (candidate (9 - l.round) l.old l.pins l.shrinking l.size ≡ candidate 9 l.old l.pins l.shrinking l.initial.size) × ((0 < l.size) × (l.size ≤ 256))
+abbrev pub invariant-loop : goal.invariant-loop
+invariant-loop l = (candidate (9 - l.counter) l.old l.pins l.shrinking l.size ≡ candidate 9 l.old l.pins l.shrinking l.initial.size) × ((0 < l.size) × (l.size ≤ 256))

@@ -3,7 +3,7 @@
 use lib.ListN.{take}
 use Rattle.picture_numbers.specs.Numbers.{spaced}
 use Rattle.picture_numbers.specs.Wrote.{Wrote}
-use Rattle.picture_numbers.proofs.put_numbers.Given as goal
+use Rattle.picture_numbers.proofs.Page.put_numbers.Given as goal
 
 abbrev pub invariant-loop-n : goal.invariant-loop-n
-invariant-loop-n l = Wrote l.initial.out l.at (spaced (take l.n-index l.numbers)) l.to l.out
+invariant-loop-n l = Wrote l.fn.self (spaced (take l.n-index l.numbers)) l.self
