@@ -1,8 +1,7 @@
 // SPDX-License-Identifier: Apache-2.0
 // What bench/ times of the port: a run sheet through the calls, one after the other on one table in a local. Only the calls that are timed
-// are taken, and no line is written. One code is added to a run sheet's: 10 is access through a gate, which stays as at first. The local is an
-// answer of access, so that access, the most frequent call, hands its table back to where it stays: that is one copy of the table less than a
-// local of the type State costs. `as`: there is no `From` between u64 and usize, and `try_from` could fail.
+// are taken, and no line is written. One code is added to a run sheet's: 10 is access through a gate, which stays as at first.
+// `as`: there is no `From` between u64 and usize, and `try_from` could fail.
 #![tactic(auto)]
 
 ghost use Rattle.std.specs.Prelude.{◌≡◌, ◌<◌};
@@ -16,7 +15,7 @@ use basics::Refusal;
 use gate::Gate;
 use key::CacheKey;
 use maintenance_resize::Maintenance;
-use state::{Access, LoadToken, Outcome, State};
+use state::{Access, LoadToken, State};
 
 // A checksum that tells the order: the sum of the numbers, and the sum of those sums.
 #[derive(Clone, Copy)]
@@ -122,10 +121,7 @@ fn hold(tokens: &mut [LoadToken; 16], place: usize, answer: Result<Access, Refus
 pub extern "C" fn tallboycrow_bench(sheet: &[u64]) -> u64
     ensures { result ≡ checksum sheet.now }
 {
-    let mut held = Outcome {
-        state: State::try_new(1).state,
-        answer: Ok(Access::CapacityBusy),
-    };
+    let mut t = State::try_new(1).state;
     let mut tokens = [no_token(); 16];
     let pins: [u8; 256] = [0; 256];
     let gate = Gate::new();
@@ -143,58 +139,59 @@ pub extern "C" fn tallboycrow_bench(sheet: &[u64]) -> u64
             kind: (head / 65536 % 256) as u8,
             index,
         };
-        let count = held.state.capacity.min(basics::MAX_CAPACITY);
+        let count = t.capacity.min(basics::MAX_CAPACITY);
         // The codes are document 01's numbers and 10. A byte may be any: the last arm takes the rest.
         match head % 256 {
             1 => {
                 let made = State::try_new(number);
-                held.state = made.state;
+                t = made.state;
                 sum = sum.plus(of_done(made.answer));
             }
             2 => {
-                held = state_access::access(held.state, key, true, &pins[..count]);
-                hold(&mut tokens, place, held.answer);
-                sum = sum.plus(of_access(held.answer));
+                let accessed = state_access::access(t, key, true, &pins[..count]);
+                t = accessed.state;
+                hold(&mut tokens, place, accessed.answer);
+                sum = sum.plus(of_access(accessed.answer));
             }
             3 => {
-                let published = state_tokens::publish(held.state, tokens[place]);
-                held.state = published.state;
+                let published = state_tokens::publish(t, tokens[place]);
+                t = published.state;
                 sum = sum.plus(of_done(published.answer));
             }
             4 => {
-                let aborted = state_tokens::abort(held.state, tokens[place]);
-                held.state = aborted.state;
+                let aborted = state_tokens::abort(t, tokens[place]);
+                t = aborted.state;
                 sum = sum.plus(of_done(aborted.answer));
             }
             5 => {
-                let looked = state_lookup::lookup(held.state, key);
-                held.state = looked.state;
+                let looked = state_lookup::lookup(t, key);
+                t = looked.state;
                 sum = sum.plus(of_found(looked.answer));
             }
             8 => {
                 let mut list = [basics::NONE; 256];
                 let maintained = maintenance_resize::resize(
-                    held.state,
+                    t,
                     number,
                     &pins[..count],
                     &mut list[..count],
                 );
-                held.state = maintained.state;
+                t = maintained.state;
                 sum = sum.plus(of_maintenance(maintained.answer));
             }
             10 => {
-                held = passage::access(held.state, gate, key, true, &pins[..count]);
-                hold(&mut tokens, place, held.answer);
-                sum = sum.plus(of_access(held.answer));
+                let accessed = passage::access(t, gate, key, true, &pins[..count]);
+                t = accessed.state;
+                hold(&mut tokens, place, accessed.answer);
+                sum = sum.plus(of_access(accessed.answer));
             }
             _ => {
-                let batch = maintenance_reclaim::reclaim(held.state, number, &pins[..count]);
-                held.state = batch.state;
+                let batch = maintenance_reclaim::reclaim(t, number, &pins[..count]);
+                t = batch.state;
                 sum = sum.plus(word(10000, batch.count));
             }
         }
     }
-    let t = &held.state;
     sum.plus(t.counters.hits)
         .plus(t.counters.misses)
         .plus(t.counters.evictions)

@@ -55,7 +55,8 @@ const FAR: usize = 1048576;
 // More is read before fewer bytes than this are left: no case is longer.
 const LONGEST: usize = 98304;
 
-// ---- Numbers, low byte first. Past the end there are zeros.
+// ---- Numbers, low byte first. Past the end there are zeros. The bytes and a place in them stay two: `byte_at`, `low_8`, `read_call` and `read_table` are
+// public over both.
 
 // A place some bytes on.
 pub fn over(at: usize, bytes: usize) -> usize

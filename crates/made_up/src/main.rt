@@ -20,6 +20,8 @@ const BLOCK: usize = 262144;
 // The room of a page.
 const ROOM: usize = 524288;
 
+// Resize and access with no gate. gate_trace has both through its gate, and one function for the two would be no plainer: tables, calls and answers have
+// other types there.
 fn run_resize(
     page: &mut Page,
     t: State,

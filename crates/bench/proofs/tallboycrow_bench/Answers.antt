@@ -16,7 +16,7 @@ loop-record-preserved-in-1 c =
 
 pub loop-record-preserved-in-2 : goal.loop-record-preserved-in-2
 loop-record-preserved-in-2 c =
-    on _ _ _ _ c.loop-record.invariant c.in-Some.ensures.steps (access_goes _ _ _ _ _ _ c.min-count.ensures c.of_access.ensures c.plus-sum-in-2.ensures c.hold.ensures c.in-2.is c.access-held.ensures)
+    on _ _ _ _ c.loop-record.invariant c.in-Some.ensures.steps (access_goes _ _ _ _ _ _ c.min-count.ensures c.of_access.ensures c.plus-sum-in-2.ensures c.hold.ensures c.in-2.is c.access-accessed.ensures)
 
 pub loop-record-preserved-in-3 : goal.loop-record-preserved-in-3
 loop-record-preserved-in-3 c =
@@ -36,7 +36,7 @@ loop-record-preserved-in-8 c =
 
 pub loop-record-preserved-in-10 : goal.loop-record-preserved-in-10
 loop-record-preserved-in-10 c =
-    on _ _ _ _ c.loop-record.invariant c.in-Some.ensures.steps (through_goes _ _ _ _ _ _ c.min-count.ensures c.of_access-in-10.ensures c.plus-sum-in-10.ensures c.hold-in-10.ensures c.new-gate.ensures c.in-10.is c.access-held-in-10.ensures)
+    on _ _ _ _ c.loop-record.invariant c.in-Some.ensures.steps (through_goes _ _ _ _ _ _ c.min-count.ensures c.of_access-in-10.ensures c.plus-sum-in-10.ensures c.hold-in-10.ensures c.new-gate.ensures c.in-10.is c.access-accessed-in-10.ensures)
 
 pub loop-record-preserved : goal.loop-record-preserved
 loop-record-preserved c =
@@ -47,5 +47,5 @@ unfolding checksum
 returns c =
     let loop = c.loop-record in
     let steps = c.in-None.ensures.steps in
-    total_told loop.held.state loop.tokens loop.sum c.plus.ensures c.plus-2.ensures c.plus-3.ensures c.plus-4.ensures c.plus-5.ensures c.plus-6.ensures
+    total_told loop.t loop.tokens loop.sum c.plus.ensures c.plus-2.ensures c.plus-3.ensures c.plus-4.ensures c.plus-5.ensures c.plus-6.ensures
     ∙ ap total (sym (run_end _ _ (rw loop.invariant.0 at steps.1.0)) ∙ loop.invariant.1)

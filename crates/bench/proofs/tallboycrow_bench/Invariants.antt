@@ -8,4 +8,4 @@ use Rattle.bench.proofs.tallboycrow_bench.Given as goal
 abbrev pub invariant-loop-record : goal.invariant-loop-record
 invariant-loop-record l =
     let rest = chunks_exact_rest l.record-iterator in
-    (chunks_exact_size l.record-iterator ≡ 3) × (run_from (length rest / 3) rest 0 (running l.held.state l.tokens l.sum) ≡ run_from (length l.sheet / 3) l.sheet 0 start)
+    (chunks_exact_size l.record-iterator ≡ 3) × (run_from (length rest / 3) rest 0 (running l.t l.tokens l.sum) ≡ run_from (length l.sheet / 3) l.sheet 0 start)
