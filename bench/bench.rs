@@ -5,7 +5,7 @@
 use original::in_place;
 use std::hint::black_box;
 
-const TABLE: usize = 19_048;
+const TABLE: usize = 19_560;
 const CAPACITIES: [usize; 2] = [16, 256];
 
 unsafe extern "C" {
@@ -120,6 +120,15 @@ fn sheets(capacity: usize, calls: usize) -> Vec<Sheet> {
         }
         all.push(sheet);
     }
+    // Keys of one bucket: before each counted access all but at most four of 64 (or of the capacity) are in its chain.
+    let long = size.min(64);
+    let mut sheet = Sheet::new("access, miss into a free slot, a long chain", capacity);
+    for _ in 0..calls / 16 {
+        sheet.take(new(capacity));
+        (1..long - 3).for_each(|n| sheet.take(access(512 * n)));
+        (long - 3..=long).for_each(|n| sheet.count(access(512 * n)));
+    }
+    all.push(sheet);
     for (name, call) in [("access, miss that evicts", access as Call), ("access through the gate, miss that evicts", through)] {
         let mut sheet = Sheet::new(name, capacity);
         for _ in 0..tables {

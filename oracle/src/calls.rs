@@ -1,6 +1,7 @@
 // SPDX-License-Identifier: Apache-2.0
 //! Document 01's calls on the original table. Where document 01 has a rule that the original has not, the rule stands in
-//! front of the original's call, under a comment that begins with DIFFERENCE, and is counted each time it decides.
+//! front of the original's call, under a comment that begins with DIFFERENCE, and is counted each time it decides. So do document 02's rules for the
+//! kept lengths of the chains.
 
 use std::collections::BTreeMap;
 use std::fmt::Debug;
@@ -21,7 +22,7 @@ pub const STOP: u8 = 10;
 const MOST_CAPACITY: u64 = 1 << 62;
 const BATCH: usize = 64;
 
-/// How often each rule of document 01 decided, with what the original does there.
+/// How often each rule of documents 01 and 02 decided, with what the original does there.
 #[derive(Default)]
 pub struct Differences(BTreeMap<String, u64>);
 
@@ -89,15 +90,80 @@ fn pins_fit(table: &Table, pins: &[u8]) -> Result<(), u8> {
     if pins.len() == table.capacity() { Ok(()) } else { Err(PINS) }
 }
 
-pub fn access(table: &mut Table, key: CacheKey, allow: bool, pins: &[u8]) -> Result<Access, u8> {
-    pins_fit(table, pins)?;
-    table.access(key, allow, pins)
+/// A call that searches the key's chain first. `peek`: as `peek_clean` does, else as access and lookup do.
+fn searching<A: Debug>(
+    table: &mut Table,
+    key: CacheKey,
+    peek: bool,
+    differences: &mut Differences,
+    call: impl Fn(&mut Table) -> Result<A, u8>,
+) -> Result<A, u8> {
+    // DIFFERENCE a search that comes to its chain's end: 10 where the slots that it walked are not as many as the kept length says. The original keeps no
+    // lengths and goes on. Where it stops later on it is 10 in any case, and no difference.
+    if table.walked(key, peek).is_some_and(|walked| walked != table.length_of(key)) {
+        let original = call(&mut table.clone());
+        if !matches!(original, Err(STOP)) {
+            differences.note("search, 10 at a kept length that was not walked", original);
+        }
+        return Err(STOP);
+    }
+    call(table)
 }
 
-/// Document 02's access, by the original's own function where the table allows it.
-pub fn access_through(table: &mut Table, gate: &mut Gate, key: CacheKey, allow: bool, pins: &[u8]) -> Result<Access, u8> {
+/// A call that may remove keys from their chains.
+fn removing<A>(
+    table: &mut Table,
+    differences: &mut Differences,
+    call: impl FnOnce(&mut Table, &mut Differences) -> Result<A, u8>,
+) -> Result<A, u8> {
+    let mut after = table.clone();
+    let answer = call(&mut after, differences);
+    below_0(after.below(), differences)?;
+    *table = after;
+    answer
+}
+
+/// DIFFERENCE a removal from a chain whose kept length is 0: 10, and nothing is changed. The original keeps no lengths and removes the key. Its own
+/// refusals come first: it removes nothing then.
+fn below_0(below: bool, differences: &mut Differences) -> Result<(), u8> {
+    if below {
+        differences.note("removal, 10 at a kept length of 0", Ok(()));
+        return Err(STOP);
+    }
+    Ok(())
+}
+
+pub fn access(table: &mut Table, key: CacheKey, allow: bool, pins: &[u8], differences: &mut Differences) -> Result<Access, u8> {
     pins_fit(table, pins)?;
-    table.access_through(gate, key, allow, pins)
+    removing(table, differences, |table, differences| searching(table, key, false, differences, |table| table.access(key, allow, pins)))
+}
+
+/// Document 02's access, by the original's own function where the table allows it. It leaves the gate as it was.
+pub fn access_through(
+    table: &mut Table,
+    gate: &Gate,
+    key: CacheKey,
+    allow: bool,
+    pins: &[u8],
+    differences: &mut Differences,
+) -> Result<Access, u8> {
+    pins_fit(table, pins)?;
+    removing(table, differences, |table, differences| {
+        searching(table, key, false, differences, |table| {
+            let mut after = *gate;
+            let answer = table.access_through(&mut after, key, allow, pins);
+            assert_eq!(after, *gate, "access does not turn the gate");
+            answer
+        })
+    })
+}
+
+pub fn lookup(table: &mut Table, key: CacheKey, differences: &mut Differences) -> Result<Option<usize>, u8> {
+    searching(table, key, false, differences, |table| table.lookup(key))
+}
+
+pub fn peek_clean(table: &mut Table, key: CacheKey, differences: &mut Differences) -> Result<Option<usize>, u8> {
+    searching(table, key, true, differences, |table| table.peek_clean(key))
 }
 
 pub fn publish(table: &mut Table, token: Token, differences: &mut Differences) -> Result<(), u8> {
@@ -108,6 +174,10 @@ pub fn publish(table: &mut Table, token: Token, differences: &mut Differences) -
         return Err(NOT_GIVEN);
     }
     table.publish(token)
+}
+
+pub fn abort(table: &mut Table, token: Token, differences: &mut Differences) -> Result<(), u8> {
+    removing(table, differences, |table, _| table.abort(token))
 }
 
 /// The tests that remove, detach and the sheet's code 7 share.
@@ -126,7 +196,7 @@ pub fn remove(table: &mut Table, slot: u64, differences: &mut Differences) -> Re
     let slot = clean_slot(table, slot).inspect_err(|refusal| {
         differences.note(&format!("remove, {refusal}"), table.clone().remove_clean(slot as usize));
     })?;
-    table.remove_clean(slot)
+    removing(table, differences, |table, _| table.remove_clean(slot))
 }
 
 pub fn detach(table: &mut Table, slot: u64, differences: &mut Differences) -> Result<(), u8> {
@@ -134,7 +204,7 @@ pub fn detach(table: &mut Table, slot: u64, differences: &mut Differences) -> Re
     let slot = clean_slot(table, slot).inspect_err(|refusal| {
         differences.note(&format!("detach, {refusal}"), table.clone().detach_clean(slot as usize));
     })?;
-    table.detach_clean(slot)
+    removing(table, differences, |table, _| table.detach_clean(slot))
 }
 
 /// Code 7 of a sheet. Pins are document 01's own (added), so there is no original call.
@@ -178,8 +248,14 @@ pub fn resize(
             return Err(NOT_CLEAN);
         }
     }
-    // 10 leaves the gate as it was: the original's table and gate are given up where it stops.
-    let answer = table.resize(gate, asked, pins, list)?;
+    // 10 leaves the gate and the list as they were: the original's table and gate are given up where it stops, and here where a key that it removed from
+    // the old table takes a kept length below 0.
+    let (mut new, mut turned, mut moved) = (table.clone(), *gate, list.to_vec());
+    let answer = new.resize(&mut turned, asked, pins, &mut moved);
+    below_0(matches!(answer, Ok(Maintained::Resized { below: true, .. })), differences)?;
+    (*table, *gate) = (new, turned);
+    list.copy_from_slice(&moved);
+    let answer = answer?;
     // DIFFERENCE resize's list for a key that stands twice: the list says where each page went, and in the
     // original the second page overwrites the first.
     if let Maintained::Resized { overwritten: true, .. } = answer {
@@ -196,6 +272,10 @@ pub fn resize(
 /// The slots that left, in order.
 pub fn reclaim(table: &mut Table, limit: u64, pins: &[u8], differences: &mut Differences) -> Result<Vec<u16>, u8> {
     pins_fit(table, pins)?;
+    removing(table, differences, |table, differences| reclaim_rounds(table, limit, pins, differences))
+}
+
+fn reclaim_rounds(table: &mut Table, limit: u64, pins: &[u8], differences: &mut Differences) -> Result<Vec<u16>, u8> {
     let limit = limit as usize;
     let picture = table.picture();
     let place = |slot: &u16| picture.positions.get(usize::from(*slot)).copied();

@@ -88,9 +88,14 @@ impl Case {
         let mut list = vec![LENT; self.list_len.into()];
         let known = differences.total();
         let answer = if held.table.sound() {
+            let valid = held.table.fault().is_none();
             let mut table = Table::from_picture(&held.table);
             let answer = self.call(&mut table, &mut held.gate, &mut list, differences);
             held.table = table.picture();
+            assert!(
+                !valid || held.table.lengths == held.table.walked(),
+                "on a table without fault the kept lengths are those of the chains"
+            );
             answer
         } else {
             // DIFFERENCE first test of 10 (added): such a table cannot be made in the original, whose lists have these lengths.
@@ -115,7 +120,7 @@ impl Case {
         let Self { token, pins, .. } = self;
         let (number, key) = (token.slot as u64, token.key);
         Ok(match self.code {
-            ACCESS => match calls::access_through(table, gate, key, self.allow != 0, pins)? {
+            ACCESS => match calls::access_through(table, gate, key, self.allow != 0, pins, differences)? {
                 Access::Hit(slot) => plain(line("hit", slot)),
                 Access::Loading => plain(line("loading", None)),
                 Access::Busy => plain(line("busy", None)),
@@ -126,8 +131,8 @@ impl Case {
                 }
             },
             PUBLISH => calls::publish(table, *token, differences).map(|()| plain(line("done", None)))?,
-            ABORT => table.abort(*token).map(|()| plain(line("done", None)))?,
-            LOOKUP => plain(table.lookup(key)?.map_or(line("none", None), |slot| line("hit", slot))),
+            ABORT => calls::abort(table, *token, differences).map(|()| plain(line("done", None)))?,
+            LOOKUP => plain(calls::lookup(table, key, differences)?.map_or(line("none", None), |slot| line("hit", slot))),
             REMOVE => calls::remove(table, number, differences).map(|()| plain(line("done", None)))?,
             DETACH => calls::detach(table, number, differences).map(|()| plain(line("done", None)))?,
             RESIZE => plain(match calls::resize(table, gate, number, pins, list, differences)? {
@@ -141,7 +146,7 @@ impl Case {
                 Answer { line: line("reclaimed", slots.len()), more }
             }
             VALIDATE => table.validate(*token).map(|()| plain(line("done", None)))?,
-            PEEK_CLEAN => found(table.peek_clean(key)?),
+            PEEK_CLEAN => found(calls::peek_clean(table, key, differences)?),
             CLEAN_ENTRY => match table.clean_entry(token.slot)? {
                 None => plain(line("none", None)),
                 Some((key, last_access)) => {

@@ -1,6 +1,6 @@
 // SPDX-License-Identifier: Apache-2.0
 //! Made-up tables chosen by aim: each shows a rule that a program could have otherwise and still agree with most others. Beside each case stands
-//! what document 01 says of it: the word and its number.
+//! what document 01 says of it, and document 02 of the kept lengths: the word and its number.
 
 use crate::case::{CALLS, CLEAN_ENTRY, COLD_CANDIDATE, Case, DETACH, OLDEST_CLEAN, PEEK_CLEAN, VALIDATE};
 use crate::make_sheets::with_sum;
@@ -400,9 +400,259 @@ fn damaged(all: &mut Aimed) {
     all.push(("refused 10", Case { token, ..call(ABORT, &on(&loading, &|table| table.heads[2] = NONE)) }));
 }
 
+/// The table with that length kept for the key's chain.
+pub fn kept(table: &Picture, key: CacheKey, length: u8) -> Picture {
+    let mut table = table.clone();
+    table.lengths[key.bucket_of(table.buckets) as usize] = length;
+    table
+}
+
+/// Searches that come to the end of a chain whose kept length is not what they walked: 10. Of another chain the length does not matter.
+fn lengths_walked(all: &mut Aimed) {
+    // Slot 1 in front of slot 0, both of bucket 1; 17 is absent from it. Slot 2 is of bucket 2.
+    let table = clean(4, [1, 9, 2]);
+    let told = |all: &mut Aimed, table: &Picture, access: &'static str, refused: &'static str, none: &'static str| {
+        all.push((access, of_page(ACCESS, table, 17)));
+        all.push((refused, Case { allow: 0, ..of_page(ACCESS, table, 17) }));
+        all.push((none, of_page(LOOKUP, table, 17)));
+        all.push((none, of_page(PEEK_CLEAN, table, 17)));
+    };
+    told(all, &table, "reserved 3", "busy -", "none -");
+    for length in [3, 1, 0, 63, 64, 65, 255] {
+        told(all, &kept(&table, key(1), length), "refused 10", "refused 10", "refused 10");
+        told(all, &kept(&table, key(2), length), "reserved 3", "busy -", "none -");
+        told(all, &kept(&table, key(3), length), "reserved 3", "busy -", "none -");
+        let wrong = kept(&table, key(1), length);
+        // 3 stands before the search.
+        all.push(("refused 3", Case { pins: Vec::new(), ..of_page(ACCESS, &wrong, 17) }));
+        // A search that stops at a slot compares nothing, be it the first of the chain or its last.
+        for (page, slot) in [(9, ["hit 1", "found 1"]), (1, ["hit 0", "found 0"])] {
+            all.push((slot[0], of_page(ACCESS, &wrong, page)));
+            all.push((slot[0], Case { allow: 0, ..of_page(ACCESS, &wrong, page) }));
+            all.push((slot[0], of_page(LOOKUP, &wrong, page)));
+            all.push((slot[1], of_page(PEEK_CLEAN, &wrong, page)));
+        }
+    }
+    // 7 of a hit in front of a wrong length.
+    let mut spent = kept(&table, key(1), 9);
+    spent.next_access_sequence = MAX;
+    all.push(("refused 7", of_page(ACCESS, &spent, 1)));
+    all.push(("refused 7", of_page(LOOKUP, &spent, 1)));
+    // An empty chain: 10 where it says 64, and not busy; before loading not allowed and before 7 of either number.
+    for length in [1, 63, 64, 65, 255] {
+        for (uses, generations) in [(0, 0), (MAX, 0), (0, MAX), (MAX, MAX)] {
+            let mut table = kept(&clean(1, []), key(1), length);
+            table.next_access_sequence = uses;
+            table.next_load_generation = generations;
+            all.push(("refused 10", call(ACCESS, &table)));
+            all.push(("refused 10", Case { allow: 0, ..call(ACCESS, &table) }));
+            all.push(("refused 10", call(LOOKUP, &table)));
+            all.push(("refused 10", call(PEEK_CLEAN, &table)));
+        }
+        // Nor is it busy where nothing can be evicted, and no victim's number is spent.
+        let full = kept(&clean(1, [1]), key(2), length);
+        all.push(("refused 10", of_page(ACCESS, &full, 2)));
+        all.push(("refused 10", pinned(of_page(ACCESS, &full, 2), 1)));
+    }
+    // A key that loads is found by access and lookup; peek_clean passes it and comes to the end.
+    let mut table = loaded(4, [1]);
+    reserve(&mut table, 9);
+    let loading = table.picture();
+    all.push(("none -", of_page(PEEK_CLEAN, &loading, 9)));
+    for length in [0, 1, 3, 64, 255] {
+        let wrong = kept(&loading, key(9), length);
+        all.push(("loading -", of_page(ACCESS, &wrong, 9)));
+        all.push(("none -", of_page(LOOKUP, &wrong, 9)));
+        all.push(("refused 10", of_page(PEEK_CLEAN, &wrong, 9)));
+        all.push(("found 0", of_page(PEEK_CLEAN, &wrong, 1)));
+    }
+    // A vacant slot in a chain stops access and lookup whatever the length; peek_clean passes it and counts it.
+    let mut vacant = clean(2, [1]);
+    vacant.heads[2] = 1;
+    for (length, peeked) in [(0, "refused 10"), (1, "none -"), (2, "refused 10")] {
+        let table = kept(&vacant, key(2), length);
+        all.push(("refused 10", of_page(ACCESS, &table, 2)));
+        all.push(("refused 10", of_page(LOOKUP, &table, 2)));
+        all.push((peeked, of_page(PEEK_CLEAN, &table, 2)));
+    }
+}
+
+/// Lengths about the limit of a chain: one of 63, one of 64 and one with a 65th slot.
+fn lengths_full(all: &mut Aimed) {
+    let chain = |slots: u64| clean_keys(66, (0..slots).map(mate));
+    for (slots, length, access, none) in [
+        (63, 62, "refused 10", "refused 10"),
+        (63, 63, "reserved 63", "none -"),
+        (63, 64, "refused 10", "refused 10"),
+        (64, 63, "refused 10", "refused 10"),
+        (64, 64, "busy -", "none -"),
+        (64, 65, "refused 10", "refused 10"),
+        (64, 0, "refused 10", "refused 10"),
+    ] {
+        let table = kept(&chain(slots), mate(0), length);
+        all.push((access, of_key(ACCESS, &table, mate(65))));
+        all.push((none, of_key(LOOKUP, &table, mate(65))));
+        all.push((none, of_key(PEEK_CLEAN, &table, mate(65))));
+    }
+    // The last slot of a full chain, with a wrong length.
+    let full = kept(&chain(64), mate(0), 63);
+    all.push(("hit 0", of_key(ACCESS, &full, mate(0))));
+    all.push(("hit 0", of_key(LOOKUP, &full, mate(0))));
+    all.push(("found 0", of_key(PEEK_CLEAN, &full, mate(0))));
+    all.push(("done -", of_number(REMOVE, &full, 0)));
+    // A 65th slot is 10, also where the length says 65.
+    let mut long = clean_keys(66, (0..64).map(mate).chain([key(1)]));
+    long.heads[1] = NONE;
+    long.slots[64].key = mate(64);
+    long.next[64] = long.heads[0];
+    long.heads[0] = 64;
+    for length in [64, 65] {
+        let table = kept(&kept(&long, key(1), 0), mate(0), length);
+        all.push(("refused 10", of_key(ACCESS, &table, mate(65))));
+        all.push(("refused 10", of_key(LOOKUP, &table, mate(65))));
+        all.push(("refused 10", of_key(PEEK_CLEAN, &table, mate(65))));
+    }
+}
+
+/// A removal from a chain whose kept length is 0: 10, and the table is as it came. From 1 and from 255 it takes one away.
+fn lengths_removed(all: &mut Aimed) {
+    let mut table = loaded(3, [3]);
+    let token = reserve(&mut table, 1);
+    let loading = table.picture();
+    let two = clean(2, [1, 2]);
+    for (length, ended, done) in
+        [(0, "refused 10", "refused 10"), (1, "done -", "reclaimed 1"), (65, "done -", "reclaimed 1"), (255, "done -", "reclaimed 1")]
+    {
+        let table = kept(&loading, key(1), length);
+        all.push((ended, Case { token, ..call(ABORT, &table) }));
+        // 6 stands before it; a publish and a validation remove nothing.
+        all.push(("refused 6", Case { token: Token { generation: 9, ..token }, ..call(ABORT, &table) }));
+        all.push(("done -", Case { token, ..call(PUBLISH, &table) }));
+        all.push(("done -", Case { token, ..call(VALIDATE, &table) }));
+        let table = kept(&two, key(1), length);
+        for code in [REMOVE, DETACH] {
+            all.push((ended, of_number(code, &table, 0)));
+            all.push(("done -", of_number(code, &table, 1)));
+            all.push(("refused 5", of_number(code, &table, 2)));
+            all.push(("refused 8", of_number(code, &kept(&loading, key(1), length), 1)));
+        }
+        all.push((done, of_number(RECLAIM, &table, 1)));
+        all.push(("reclaimed 0", of_number(RECLAIM, &table, 0)));
+        all.push(("reclaimed 1", pinned(of_number(RECLAIM, &table, 2), 1)));
+        // An eviction: slot 0 is the victim.
+        let evicted = if length == 0 { "refused 10" } else { "evicted 0" };
+        all.push((evicted, of_page(ACCESS, &table, 3)));
+        all.push(("evicted 1", pinned(of_page(ACCESS, &table, 3), 1)));
+        all.push(("busy -", pinned(of_page(ACCESS, &table, 3), 2)));
+        all.push(("busy -", Case { allow: 0, ..of_page(ACCESS, &table, 3) }));
+        // Both 7 stand before it.
+        for (uses, generations) in [(MAX, 5), (5, MAX)] {
+            let mut spent = of_page(ACCESS, &table, 3);
+            (spent.table.next_access_sequence, spent.table.next_load_generation) = (uses, generations);
+            all.push(("refused 7", spent));
+        }
+    }
+    // The length of another chain does not matter.
+    let other = kept(&two, key(2), 0);
+    all.push(("done -", of_number(REMOVE, &other, 0)));
+    all.push(("done -", of_number(DETACH, &other, 0)));
+    all.push(("evicted 0", of_page(ACCESS, &other, 3)));
+    all.push(("reclaimed 1", of_number(RECLAIM, &other, 1)));
+    // A later round of a reclaim gives up the earlier ones.
+    all.push(("refused 10", of_number(RECLAIM, &other, 2)));
+    let three = kept(&clean(3, [1, 2, 3]), key(3), 0);
+    all.push(("refused 10", of_number(RECLAIM, &three, 64)));
+    all.push(("refused 10", of_number(RECLAIM, &three, 3)));
+    all.push(("reclaimed 2", of_number(RECLAIM, &three, 2)));
+    // Two keys of one chain whose length says one.
+    let mates = kept(&clean(4, [1, 9]), key(1), 1);
+    all.push(("reclaimed 1", of_number(RECLAIM, &mates, 1)));
+    all.push(("refused 10", of_number(RECLAIM, &mates, 2)));
+    // The victim is of the key's own chain.
+    let own = clean(2, [1, 5]);
+    all.push(("evicted 0", of_page(ACCESS, &own, 9)));
+    all.push(("refused 10", of_page(ACCESS, &kept(&own, key(1), 1), 9)));
+    // Slot 0 in a chain that the chain of slot 1 goes on to. A removal changes the length of its own bucket only.
+    let mut shared = clean(4, [1, 2]);
+    shared.next[1] = 0;
+    let shared = kept(&shared, key(2), 2);
+    all.push(("none -", of_page(LOOKUP, &shared, 10)));
+    for slot in [0, 1] {
+        all.push(("done -", of_number(REMOVE, &shared, slot)));
+        all.push(("done -", of_number(DETACH, &shared, slot)));
+    }
+    all.push(("reclaimed 2", of_number(RECLAIM, &shared, 2)));
+    // The first test of 10 does not look at lengths.
+    let mut most = two;
+    most.lengths.fill(255);
+    all.push(("found 0", call(OLDEST_CLEAN, &most)));
+    all.push(("found 1", of_number(COLD_CANDIDATE, &most, 1)));
+    all.push(("found 1", of_number(CLEAN_ENTRY, &most, 1)));
+}
+
+/// Resize removes from the old table the keys of pinned slots, those that must make room and those that a chain refuses: 10 at a length of 0. A key that
+/// simply moves is not removed from it.
+fn lengths_resized(all: &mut Aimed) {
+    let two = clean(2, [1, 2]);
+    for length in [0, 1, 65, 255] {
+        let table = kept(&two, key(1), length);
+        let word = |done: &'static str| if length == 0 { "refused 10" } else { done };
+        all.push((word("resized 4"), pinned(of_number(RESIZE, &table, 4), 1)));
+        all.push((word("resized 1"), pinned(of_number(RESIZE, &table, 1), 1)));
+        // Slot 0 is dropped for room, or moves.
+        all.push((word("resized 1"), of_number(RESIZE, &table, 1)));
+        all.push(("resized 4", of_number(RESIZE, &table, 4)));
+        // Slot 1 moves, or is dropped where slot 0 is pinned.
+        let other = kept(&two, key(2), length);
+        all.push(("resized 1", of_number(RESIZE, &other, 1)));
+        all.push(("resized 4", pinned(of_number(RESIZE, &other, 4), 1)));
+        all.push((word("resized 1"), pinned(of_number(RESIZE, &other, 1), 1)));
+        // Unchanged, Busy and 8 remove nothing.
+        all.push(("unchanged -", pinned(of_number(RESIZE, &table, 2), 2)));
+        all.push(("unchanged -", pinned(of_number(RESIZE, &table, 1), 2)));
+        let mut busy = pinned(of_number(RESIZE, &table, 1), 1);
+        busy.table.loading = 1;
+        all.push(("busy -", busy));
+        let stray = Case { pins: vec![1, 1], ..of_number(RESIZE, &kept(&clean(2, [1]), key(1), length), 4) };
+        all.push(("refused 8", stray));
+    }
+    // A table with no key shrinks and grows, and its lengths are 0.
+    let mut empty = clean(2, []);
+    empty.lengths.fill(64);
+    all.push(("resized 1", of_number(RESIZE, &empty, 1)));
+    all.push(("resized 3", of_number(RESIZE, &empty, 3)));
+    // By the clean count there is no key, and none is removed; slot 0 is pinned.
+    let mut uncounted = kept(&clean(2, [1]), key(1), 0);
+    uncounted.clean = 0;
+    all.push(("resized 1", pinned(of_number(RESIZE, &uncounted, 1), 1)));
+    // A key that stands twice and is pinned once leaves the old table twice.
+    let mut double = clean(2, [1, 5]);
+    double.slots[1].key = key(1);
+    for (length, word) in [(0, "refused 10"), (1, "refused 10"), (2, "resized 4")] {
+        all.push((word, pinned(of_number(RESIZE, &kept(&double, key(1), length), 4), 1)));
+    }
+    // Two of a chain dropped, of a length that says one.
+    let mates = clean(4, [1, 9, 2]);
+    for (length, word) in [(1, "refused 10"), (2, "resized 1")] {
+        all.push((word, of_number(RESIZE, &kept(&mates, key(1), length), 1)));
+    }
+    // 65 keys of two chains that are one in a table of 128: the last is refused there, and removed from the old table; the others move.
+    let halves = clean_keys(129, (0..65).map(half_mate));
+    for (length, word) in [(0, "refused 10"), (1, "resized 128"), (255, "resized 128")] {
+        all.push((word, of_number(RESIZE, &kept(&halves, half_mate(64), length), 128)));
+    }
+    all.push(("resized 128", of_number(RESIZE, &kept(&halves, half_mate(1), 0), 128)));
+    all.push(("busy -", pinned(of_number(RESIZE, &kept(&halves, half_mate(64), 0), 1), 65)));
+}
+
 pub fn aimed() -> Aimed {
     let mut all = Vec::new();
     for part in [counters, numbers, tokens, arguments, heaps, chains, many, stops] {
+        part(&mut all);
+    }
+    // Up to here every length is that of its chain, whatever was done to the table.
+    all.iter_mut().for_each(|(_, case): &mut (_, Case)| case.table.lengths = case.table.walked());
+    for part in [lengths_walked, lengths_full, lengths_removed, lengths_resized] {
         part(&mut all);
     }
     all

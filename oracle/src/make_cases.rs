@@ -1,5 +1,6 @@
 // SPDX-License-Identifier: Apache-2.0
-//! Made-up tables by seed: the table of a sheet at some record, damaged in a few places, and one call.
+//! Made-up tables by seed: the table of a sheet at some record, damaged in a few places, and one call. The kept lengths are those of the chains as they
+//! then are; in one case of eight some of these are damaged too.
 
 use crate::case::{CALLS, CLEAN_ENTRY, COLD_CANDIDATE, Case, DETACH, VALIDATE};
 use crate::make_sheets::{Few, Maker};
@@ -13,7 +14,11 @@ const EACH: u64 = 12;
 
 pub fn cases(seed: u64, count: u64, emit: &mut impl FnMut(&Case)) {
     let mut random = Random::new(seed ^ 0x6d61_6465_2075_7021);
-    tables(&mut random, count, &mut |table, few, random| emit(&call(table, few, random)));
+    tables(&mut random, count, &mut |table, few, random| {
+        let mut case = call(table, few, random);
+        damage_lengths(&mut case, random);
+        emit(&case);
+    });
 }
 
 /// Tables, each with the keys that it was made with and numbers for its call.
@@ -43,6 +48,7 @@ pub fn tables(random: &mut Random, count: u64, emit: &mut impl FnMut(Picture, Fe
                     damage(&mut table, few, &mut random);
                 }
             }
+            table.lengths = table.walked();
             emit(table, few, &mut random);
         }
     }
@@ -203,6 +209,37 @@ fn shape(table: &mut Picture, random: &mut Random) {
     table.heads.resize(table.buckets.min(MOST_BUCKETS) as usize, 0);
     table.free.resize(table.free_len.min(MOST_SLOTS) as usize, 0);
     table.entries.resize(table.heap_len.min(MOST_SLOTS) as usize, (0, 0));
+}
+
+/// In one case of eight one to three kept lengths are other than their chains', half of these that of the call's key or of a key that it may remove.
+pub fn damage_lengths(case: &mut Case, random: &mut Random) {
+    if case.table.lengths.is_empty() || !random.chance(1, 8) {
+        return;
+    }
+    for _ in 0..random.between(1, 3) {
+        let table = &case.table;
+        let of = |slot: usize| table.slots.get(slot).map(|record| record.key);
+        // The victims of an access and a reclaim are the first heap places, those of a resize any.
+        let entry = if [ACCESS, RECLAIM].contains(&case.code) { random.below(3) } else { random.below(table.entries.len() as u64) };
+        let victim = table.entries.get(entry as usize).and_then(|(slot, _)| of(usize::from(*slot)));
+        let key = match case.code {
+            REMOVE | DETACH => of(case.token.slot),
+            RECLAIM | RESIZE => victim,
+            ACCESS if random.chance(1, 2) => victim,
+            _ => Some(case.token.key),
+        };
+        let bucket = match key {
+            Some(key) if random.chance(1, 2) => key.bucket_of(table.lengths.len() as u64),
+            _ => random.below(table.lengths.len() as u64),
+        };
+        let length = &mut case.table.lengths[bucket as usize];
+        *length = match random.below(4) {
+            0 => length.wrapping_add(1),
+            1 => length.wrapping_sub(1),
+            2 => 0,
+            _ => random.pick(&[63, 64, 65, 255]),
+        };
+    }
 }
 
 fn of_token(code: u8) -> bool {

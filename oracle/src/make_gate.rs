@@ -4,7 +4,7 @@
 use crate::calls::Differences;
 use crate::case::{CALLS, CLEAN_ENTRY, COLD_CANDIDATE, Case, DETACH, Held, OLDEST_CLEAN, PEEK_CLEAN, VALIDATE};
 use crate::gate_case::{BEGIN_DIRTY, BEGIN_PAUSE, END_DIRTY, END_PAUSE, GateCase, TURNS};
-use crate::make_cases::{call_of, tables};
+use crate::make_cases::{call_of, damage_lengths, tables};
 use crate::make_sheets::{Few, Keys};
 use crate::picture::{CLEAN, MOST_SLOTS, Picture};
 use crate::random::Random;
@@ -218,7 +218,7 @@ impl<Emit: FnMut(&GateCase)> Lists<'_, Emit> {
     fn made_up(&mut self) {
         let count = self.random.between(1, 12);
         let mut random = Random::new(self.random.next());
-        tables(&mut random, count, &mut |table, few, _| {
+        tables(&mut random, count, &mut |table, few, lengths| {
             let gate = self.gate();
             self.few = few;
             self.most = table.capacity.clamp(8, MOST_SLOTS);
@@ -228,7 +228,8 @@ impl<Emit: FnMut(&GateCase)> Lists<'_, Emit> {
             let turn = self.random.pick(&TURNS);
             let code = self.random.pick(&[any, any, any, any, RESIZE, RESIZE, ACCESS, turn]);
             let code = if self.random.chance(1, 40) { NEW } else { code };
-            let case = self.call(code);
+            let mut case = self.call(code);
+            damage_lengths(&mut case, lengths);
             self.put(Some(gate), case);
             let calls = self.random.below(7);
             self.go_on(calls);

@@ -4,8 +4,8 @@
 
 use crate::case::{CALLS, CLEAN_ENTRY, COLD_CANDIDATE, Case, DETACH, OLDEST_CLEAN, PEEK_CLEAN, VALIDATE};
 use crate::gate_case::{BEGIN_DIRTY, BEGIN_PAUSE, END_DIRTY, END_PAUSE, GateCase};
-use crate::make_aimed::{call, clean, clean_keys, half_mate, key, loaded, mate, of_key, of_number, of_page, pinned, reserve};
-use crate::picture::Picture;
+use crate::make_aimed::{call, clean, clean_keys, half_mate, kept, key, loaded, mate, of_key, of_number, of_page, pinned, reserve};
+use crate::picture::{NONE, Picture};
 use crate::sheet::{ABORT, ACCESS, LOOKUP, NEW, PUBLISH, RECLAIM, REMOVE, RESIZE};
 use crate::{Gate, Token};
 
@@ -362,6 +362,56 @@ fn places(all: &mut Aimed) {
     all.then(of_number(RECLAIM, &clean(3, []), 1), "reclaimed 1", [0, 0, 0, 6]);
 }
 
+/// Kept lengths that are not their chains': 10 of a search is met at any gate, and 10 of a removal leaves the gate as it was.
+fn kept_lengths(all: &mut Aimed) {
+    let full = clean(2, [1, 2]);
+    let table = kept(&full, key(3), 64);
+    for gate in [OPEN, [1, 0, 0, 0], [0, 0, 1, 0], [MAX, MAX, 1, MAX]] {
+        for allow in [0, 1] {
+            all.keeps(gate, Case { allow, ..of_page(ACCESS, &table, 3) }, "refused 10");
+            all.keeps(gate, Case { allow, ..of_page(ACCESS, &table, 2) }, "hit 1");
+        }
+        all.keeps(gate, of_page(LOOKUP, &table, 3), "refused 10");
+        all.keeps(gate, of_page(PEEK_CLEAN, &table, 3), "refused 10");
+        // The victim's length is looked at where a slot is taken, which only an open gate lets come so far.
+        let victim = if gate == OPEN { "refused 10" } else { "busy -" };
+        all.keeps(gate, of_page(ACCESS, &kept(&full, key(1), 0), 3), victim);
+    }
+    let none = kept(&full, key(1), 0);
+    for generation in [0, 5, MAX - 1] {
+        for mark in [0, 1] {
+            let (gate, cleared) = ([0, 0, mark, generation], [0, 0, 0, generation + 1]);
+            all.keeps(gate, pin(of_number(RESIZE, &none, 3), 0), "refused 10");
+            all.keeps(gate, of_number(RESIZE, &none, 1), "refused 10");
+            all.on(gate, of_number(RESIZE, &none, 3), "resized 3", cleared);
+            all.on(gate, pin(of_number(RESIZE, &none, 3), 1), "resized 3", cleared);
+            all.on(gate, of_number(RESIZE, &none, 2), "unchanged -", [0, 0, 0, generation]);
+        }
+    }
+    // 7 of the gate and a shut gate come first.
+    all.on([0, 0, 1, MAX], pin(of_number(RESIZE, &none, 3), 0), "refused 7", [0, 0, 0, MAX]);
+    all.keeps([1, 0, 1, 5], pin(of_number(RESIZE, &none, 3), 0), "busy -");
+    // Lengths go on from call to call: 255 and 254, a search that meets it, and a table made anew, whose lengths are its chains'.
+    all.keeps(OPEN, of_number(REMOVE, &kept(&full, key(1), 255), 0), "done -");
+    all.then(of_page(ACCESS, &full, 1), "refused 10", OPEN);
+    all.then(of_page(ACCESS, &full, 3), "reserved 0", OPEN);
+    let token = Token { slot: 0, generation: 3, key: key(3), access_sequence: 3 };
+    all.then(Case { token, ..call(PUBLISH, &full) }, "done -", OPEN);
+    all.then(of_page(LOOKUP, &full, 1), "refused 10", OPEN);
+    all.then(of_number(RESIZE, &full, 4), "resized 4", [0, 0, 0, 1]);
+    all.then(of_page(ACCESS, &clean(4, []), 1), "reserved 2", [0, 0, 0, 1]);
+    // Chains that share slots: slots 0, 1, 2 in bucket 1, and slots 1, 2 in bucket 2, whose key slot 1 has. Where slot 1 leaves, the length of bucket 1 is no
+    // longer what peek_clean walks.
+    let mut shared = clean(4, [1, 2, 9]);
+    shared.heads[1] = 0;
+    shared.next = vec![1, 2, NONE, NONE];
+    let shared = kept(&kept(&shared, key(1), 3), key(2), 2);
+    all.keeps(OPEN, of_page(PEEK_CLEAN, &shared, 17), "none -");
+    all.then(of_number(REMOVE, &shared, 1), "done -", OPEN);
+    all.then(of_page(PEEK_CLEAN, &shared, 17), "refused 10", OPEN);
+    all.then(of_page(PEEK_CLEAN, &shared, 10), "none -", OPEN);
+}
+
 pub fn gate_aimed() -> Vec<(String, GateCase)> {
     let mut all = Aimed::default();
     // Before any case stand the table of a refused new one and the gate as at first.
@@ -374,5 +424,8 @@ pub fn gate_aimed() -> Vec<(String, GateCase)> {
     for part in [refusals, lengths, shut, equal, loads, spent, undone, attempts, turns, access, others, places] {
         part(&mut all);
     }
+    // Up to here every length is that of its chain, whatever was done to the table.
+    all.0.iter_mut().for_each(|(_, case)| case.case.table.lengths = case.case.table.walked());
+    kept_lengths(&mut all);
     all.0
 }

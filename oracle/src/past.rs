@@ -1,5 +1,5 @@
 // SPDX-License-Identifier: Apache-2.0
-//! The places past the lengths: part 11 of the trace (README.md). The original has none, so document 01's words decide: "In a fresh table slots
+//! The places past the lengths: part 12 of the trace (README.md). The original has none, so document 01's words decide: "In a fresh table slots
 //! past the capacity are vacant, and other places past a length are 0. A place given up at the end of stack or heap becomes 0; others past the end
 //! stay."
 
@@ -10,17 +10,18 @@ use crate::picture::{MOST_BUCKETS, MOST_SLOTS, Picture, put};
 /// What a place past a length holds where it is not 0; of a slot and of a heap place, each of its numbers.
 const FILL: u64 = 7;
 
-/// How many numbers a place of each list has: slots, heads, next, stack, heap, positions.
-const NUMBERS: [usize; 6] = [6, 1, 1, 1, 2, 1];
+/// How many numbers a place of each list has: slots, heads, kept lengths, next, stack, heap, positions.
+const NUMBERS: [usize; 7] = [6, 1, 1, 1, 1, 2, 1];
 
 /// Of each list the places past its length that hold FILL; all others hold 0.
 #[derive(Clone, Default)]
-pub struct Past([BTreeSet<u64>; 6]);
+pub struct Past([BTreeSet<u64>; 7]);
 
 /// The length of each list and the places that it has.
-fn lists(table: &Picture) -> [(u64, u64); 6] {
+fn lists(table: &Picture) -> [(u64, u64); 7] {
     let of = |length| (length, MOST_SLOTS);
-    [of(table.capacity), (table.buckets, MOST_BUCKETS), of(table.capacity), of(table.free_len), of(table.heap_len), of(table.capacity)]
+    let buckets = (table.buckets, MOST_BUCKETS);
+    [of(table.capacity), buckets, buckets, of(table.capacity), of(table.free_len), of(table.heap_len), of(table.capacity)]
 }
 
 impl Past {

@@ -30,7 +30,7 @@ pub struct Record {
 }
 
 /// The four lengths (capacity, buckets, free_len, heap_len) are those of the lists, but in a made-up table that fails the
-/// first test of 10. There a list has at most 256 places (heads 512), whatever its length says.
+/// first test of 10. There a list has at most 256 places (heads and lengths 512), whatever its length says.
 #[derive(Clone, Debug, Default, Eq, PartialEq)]
 pub struct Picture {
     pub capacity: u64,
@@ -43,6 +43,8 @@ pub struct Picture {
     pub slots: Vec<Record>,
     pub buckets: u64,
     pub heads: Vec<u16>,
+    /// The kept length of each bucket's chain, as document 02 has it. The original keeps none.
+    pub lengths: Vec<u8>,
     pub next: Vec<u16>,
     pub free_len: u64,
     pub free: Vec<u16>,
@@ -79,6 +81,7 @@ impl Picture {
         }
         all(8, &[self.buckets]);
         self.heads.iter().for_each(|slot| all(2, &[u64::from(*slot)]));
+        self.lengths.iter().for_each(|length| all(1, &[u64::from(*length)]));
         self.next.iter().for_each(|slot| all(2, &[u64::from(*slot)]));
         all(8, &[self.free_len]);
         self.free.iter().for_each(|slot| all(2, &[u64::from(*slot)]));
@@ -103,6 +106,7 @@ impl Picture {
         let records = records.collect();
         let buckets = take(8);
         let heads = words(buckets.min(MOST_BUCKETS), take);
+        let lengths = heads.iter().map(|_| take(1) as u8).collect();
         let next = words(slots, take);
         let free_len = take(8);
         let free = words(free_len.min(MOST_SLOTS), take);
@@ -119,6 +123,7 @@ impl Picture {
             slots: records,
             buckets,
             heads,
+            lengths,
             next,
             free_len,
             free,
@@ -133,9 +138,31 @@ impl Picture {
         self.each(&mut |_, number| put(out, number));
     }
 
+    /// The length of each bucket's chain, found by walking it. A chain that has none, since a link goes out of range or round, is walked up to there, or
+    /// for 64 slots.
+    pub fn walked(&self) -> Vec<u8> {
+        self.heads.iter().map(|head| self.walked_from(*head)).collect()
+    }
+
+    fn walked_from(&self, head: u16) -> u8 {
+        let mut slot = head;
+        for walked in 0..=u8::MAX {
+            match self.next.get(usize::from(slot)) {
+                Some(next) => slot = *next,
+                None => return walked,
+            }
+        }
+        64
+    }
+
+    /// What is wrong, if anything: as the original has it, and a kept length that is not its chain's.
+    pub fn fault(&self) -> Option<&'static str> {
+        self.fault_of_original().or_else(|| (self.lengths != self.walked()).then_some("a kept length that is not its chain's"))
+    }
+
     /// The original's `assert_valid` of index and heap (they are compiled for its tests only), the counts, and what its
     /// comments say of keys and numbers. What is wrong, if anything.
-    pub fn fault(&self) -> Option<&'static str> {
+    pub fn fault_of_original(&self) -> Option<&'static str> {
         let capacity = self.slots.len();
         let mut seen = vec![false; capacity];
         for (bucket, &head) in self.heads.iter().enumerate() {

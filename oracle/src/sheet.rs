@@ -109,7 +109,7 @@ impl Sheet {
         let number = u64::from(record.number);
         let place = usize::from(record.place);
         Ok(match record.code {
-            ACCESS => match calls::access(table, record.key(), record.allow == 1, pins)? {
+            ACCESS => match calls::access(table, record.key(), record.allow == 1, pins, differences)? {
                 Access::Hit(slot) => line("hit", slot),
                 Access::Loading => line("loading", None),
                 Access::Busy => line("busy", None),
@@ -123,10 +123,10 @@ impl Sheet {
                 line("done", None)
             }
             ABORT => {
-                table.abort(tokens[place].ok_or(STALE)?)?;
+                calls::abort(table, tokens[place].ok_or(STALE)?, differences)?;
                 line("done", None)
             }
-            LOOKUP => match table.lookup(record.key())? {
+            LOOKUP => match calls::lookup(table, record.key(), differences)? {
                 Some(slot) => line("hit", slot),
                 None => line("none", None),
             },
@@ -145,7 +145,7 @@ impl Sheet {
                 match calls::resize(table, &mut Gate::default(), number, pins, &mut list, differences)? {
                     Maintained::Unchanged => line("unchanged", None),
                     Maintained::Busy => line("busy", None),
-                    Maintained::Resized { capacity, overwritten } => {
+                    Maintained::Resized { capacity, overwritten, .. } => {
                         assert!(!overwritten, "no key stands twice on a sheet");
                         let mut moved = vec![0; capacity];
                         for (pin, new) in pins.iter().zip(list) {
@@ -175,7 +175,9 @@ impl Sheet {
     /// What the trace has after a line: the table, the pins, and the places past the lengths, the pins' last. On a sheet these are all 0: the table
     /// was fresh, and `made` and resize give pins to no other slots.
     pub fn write_table(&self, out: &mut Vec<u8>) {
-        self.picture().write(out);
+        let picture = self.picture();
+        assert_eq!(picture.lengths, picture.walked(), "on a sheet the kept lengths are those of the chains");
+        picture.write(out);
         for pin in &self.pins {
             put(out, u64::from(*pin));
         }

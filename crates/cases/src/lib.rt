@@ -116,6 +116,16 @@ trait Listed: Copy {
     fn read(bytes: &[u8], at: usize) -> Self;
 }
 
+impl Listed for u8 {
+    const BYTES: usize = 1;
+
+    const BEHIND: u8 = 7;
+
+    fn read(bytes: &[u8], at: usize) -> u8 {
+        byte_at(bytes, at)
+    }
+}
+
 impl Listed for u16 {
     const BYTES: usize = 2;
 
@@ -206,14 +216,15 @@ pub fn read_table(bytes: &[u8], at: usize) -> Table
     let buckets = low_8(bytes, a) as usize;
     index.buckets = buckets;
     let b = read_list(bytes, over(a, 8), &mut index.heads, buckets);
-    let c = read_list(bytes, b, &mut index.next, capacity);
-    let free_len = low_8(bytes, c) as usize;
+    let c = read_list(bytes, b, &mut index.lengths, buckets);
+    let d = read_list(bytes, c, &mut index.next, capacity);
+    let free_len = low_8(bytes, d) as usize;
     index.free_len = free_len;
-    let d = read_list(bytes, over(c, 8), &mut index.free, free_len);
-    let heap_len = low_8(bytes, d) as usize;
+    let e = read_list(bytes, over(d, 8), &mut index.free, free_len);
+    let heap_len = low_8(bytes, e) as usize;
     eviction.len = heap_len;
-    let e = read_list(bytes, over(d, 8), &mut eviction.entries, heap_len);
-    let end = read_list(bytes, e, &mut eviction.positions, capacity);
+    let f = read_list(bytes, over(e, 8), &mut eviction.entries, heap_len);
+    let end = read_list(bytes, f, &mut eviction.positions, capacity);
     let state = State {
         slots,
         capacity,

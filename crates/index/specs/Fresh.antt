@@ -12,6 +12,7 @@ use Rattle.index.specs.declared.Index.{Index}
 unfoldable pub fresh_index : ℕ → Index
 fresh_index c = record {
   heads = replicate (bucket_count c) NONE ++ replicate (512 - bucket_count c) 0;
+  lengths = replicate 512 0;
   buckets = bucket_count c;
   next = replicate c NONE ++ replicate (256 - c) 0;
   free = down c ++ replicate (256 - c) 0;
@@ -20,7 +21,14 @@ fresh_index c = record {
 
 -- of a refused new table: "every number 0"
 unfoldable pub no_index : Index
-no_index = record { heads = replicate 512 0; buckets = 0; next = replicate 256 0; free = replicate 256 0; free_len = 0 }
+no_index = record {
+  heads = replicate 512 0;
+  lengths = replicate 512 0;
+  buckets = 0;
+  next = replicate 256 0;
+  free = replicate 256 0;
+  free_len = 0;
+}
 
 -- `try_new`, of a capacity that a table may have
 unfoldable pub new_index : ℕ → Try Index

@@ -10,7 +10,7 @@ ghost use Rattle.std.specs.Prelude.{◌-◌, ◌≤◌, ◌≡◌, ◌++◌, rep
 ghost use Rattle.basics.specs.declared.Refusal.{Refusal};
 ghost use Rattle.basics.specs.Answers.{answer, found_answer};
 ghost use Rattle.basics.specs.Lists.{down};
-ghost use Rattle.index.specs.Chain.{sized, head_of, next_of};
+ghost use Rattle.index.specs.Chain.{sized, head_of, next_of, length_of};
 ghost use Rattle.index.specs.Sizes.{Sized};
 ghost use Rattle.index.specs.Free.{top_vacant, take_vacant, release_index};
 ghost use Rattle.index.specs.Fresh.{no_index, new_index};
@@ -22,10 +22,11 @@ use key::CacheKey;
 pub const MAX_BUCKETS: usize = 512;
 
 // No arrayvec for the stack: the rules read the places past its length too ("other places past a length are 0"). The capacity is an argument: it stands once,
-// in the table.
+// in the table. A length has 8 bits: 64 fits, and an index is copied in every call.
 #[derive(Clone, Copy)]
 pub struct Index {
     pub heads: [u16; MAX_BUCKETS],
+    pub lengths: [u8; MAX_BUCKETS],
     pub buckets: usize,
     pub next: [u16; MAX_CAPACITY],
     pub free: [u16; MAX_CAPACITY],
@@ -41,6 +42,7 @@ impl Index {
         let buckets = key::bucket_count(capacity)?;
         Ok(Index {
             heads: basics::unset(buckets),
+            lengths: [0; MAX_BUCKETS], // every chain is empty
             buckets,
             next: basics::unset(capacity),
             free: full_stack(capacity),
@@ -55,6 +57,7 @@ impl Index {
     {
         Index {
             heads: [0; MAX_BUCKETS],
+            lengths: [0; MAX_BUCKETS],
             buckets: 0,
             next: [0; MAX_CAPACITY],
             free: [0; MAX_CAPACITY],
@@ -125,6 +128,14 @@ impl Index {
             .get(key.bucket(self.buckets))
             .copied()
             .map_or(0, usize::from)
+    }
+
+    // The length kept for the key's chain. A bucket past the lengths gives 0.
+    pub fn length_of(&self, key: CacheKey) -> usize
+        ensures { result ≡ length_of self.now key }
+    {
+        let bucket = key.bucket(self.buckets);
+        self.lengths.get(bucket).copied().map_or(0, usize::from)
     }
 
     // The slot behind one in its chain, stored like a head. A slot past the places gives 0.

@@ -11,40 +11,25 @@ ghost use Rattle.basics.specs.Answers.{answer};
 ghost use Rattle.index.specs.Chain.{can_insert, insert_index, remove_index};
 ghost use Rattle.index.specs.Free.{vacate as vacate_index};
 
-use basics::{NO_SLOT, NONE, Refusal};
+use basics::{NONE, Refusal};
 use index::Index;
 use key::CacheKey;
 
 // The most slots of a chain.
 pub const MAX_CHAIN: usize = 64;
 
-// Whether the key's chain takes one more slot: it ends before the steps do. One walk for this, `remove` and that of state_search would be no plainer:
-// each ends at a slot of its own and by a rule of its own, a chain of 64 has another answer here, and only `remove` keeps the place before.
-#[tactic(auto, using(basics::proofs::Tests::tests, crate::proofs::Cases::room_step, crate::proofs::Cases::room_end), unfolding(index::specs::Chain::can_insert))]
+// Whether the key's chain takes one more slot, by the length kept for it.
+#[tactic(auto, using(basics::proofs::Tests::tests), unfolding(index::specs::Chain::can_insert))]
 pub fn can_insert(index: &Index, capacity: usize, key: CacheKey) -> Result<bool, Refusal>
     ensures { answer result ≡ can_insert capacity index.now key }
 {
     index.check_sized(capacity)?;
-    let mut slot = index.head(key);
-    for _ in 0..MAX_CHAIN {
-        if slot == NO_SLOT {
-            return Ok(true);
-        }
-        if capacity <= slot {
-            return Err(Refusal::Stop);
-        }
-        slot = index.next_in_chain(slot);
-    }
-    if slot == NO_SLOT {
-        Ok(false)
-    } else {
-        Err(Refusal::Stop)
-    }
+    Ok(index.length_of(key) < MAX_CHAIN)
 }
 
 // Puts a slot that links to nothing at the front of the key's chain. The sizes are tested before the head is read, as the rule has it, and once more in
 // `can_insert`, which stands by itself too.
-#[tactic(auto, using(basics::proofs::Tests::tests, key::proofs::Buckets::bucket_low), unfolding(index::specs::Chain::insert_index))]
+#[tactic(auto, using(basics::proofs::Tests::tests, key::proofs::Buckets::bucket_low, crate::proofs::Cases::room_left), unfolding(index::specs::Chain::insert_index))]
 pub fn insert(
     mut index: Index,
     capacity: usize,
@@ -65,10 +50,12 @@ pub fn insert(
     }
     index.next[slot] = first;
     index.heads[bucket] = slot as u16;
+    index.lengths[bucket] += 1;
     Ok(index)
 }
 
-// Takes a slot out of the key's chain.
+// Takes a slot out of the key's chain. One walk for this and that of state_search would be no plainer: each ends at a slot of its own and by a rule of
+// its own, and only this one keeps the place before.
 #[tactic(auto, using(basics::proofs::Tests::tests, key::proofs::Buckets::bucket_low, crate::proofs::Cases::remove_step, crate::proofs::Cases::remove_end), unfolding(index::specs::Chain::remove_index, index::specs::Chain::unlinked))]
 pub fn remove(
     mut index: Index,
@@ -80,6 +67,7 @@ pub fn remove(
 {
     index.check_sized(capacity)?;
     let bucket = key.bucket(index.buckets);
+    let shorter = index.lengths[bucket].checked_sub(1).ok_or(Refusal::Stop)?;
     let mut previous = None;
     let mut slot = usize::from(index.heads[bucket]);
     for _ in 0..MAX_CHAIN {
@@ -93,6 +81,7 @@ pub fn remove(
                 Some(before) => index.next[before] = next,
             }
             index.next[slot] = NONE;
+            index.lengths[bucket] = shorter;
             return Ok(index);
         }
         previous = Some(slot);

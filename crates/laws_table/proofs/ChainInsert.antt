@@ -1,7 +1,7 @@
 -- SPDX-License-Identifier: Apache-2.0
 -- `insert` of the index is not refused where the key's chain has room: the slot is the first of that chain, no other chain changes.
 -- Assumes nothing.
-use Prim.Native.Nat.{ℕ, ◌<◌, ◌≤◌}
+use Prim.Native.Nat.{ℕ, ◌+◌, ◌<◌, ◌≤◌}
 use native.Mathlib.Omega.{arith}
 use mathlib.Core.Path.{◌≡◌, refl, sym, ap, ◌∙◌}
 use mathlib.Core.List.{List, [], ◌∷◌}
@@ -18,7 +18,7 @@ use Rattle.basics.proofs.Maps.{put}
 use Rattle.key.specs.declared.CacheKey.{CacheKey}
 use Rattle.key.specs.Bucket.{bucket_of}
 use Rattle.index.specs.declared.Index.{Index}
-use Rattle.index.specs.Chain.{CHAIN, head_of, linked, insert_index}
+use Rattle.index.specs.Chain.{CHAIN, head_of, length_of, linked, insert_index}
 use Rattle.laws_table.specs.Chains.{Linked, Chains}
 use Rattle.laws_table.proofs.ChainWalks.{linked_set, index_sized, can_insert_lem}
 use Rattle.key.proofs.Buckets.{bucket_low}
@@ -69,10 +69,19 @@ module _ (c : ℕ) (ix : Index) (g : ℕ → Option ℕ) (r : Chains c ix g) (ke
         | no! e ↦ rw (e, get_or-set_other ix.heads b d x 0 (eqb-false d b e)) (linked_set ix.next c (get_or ix.heads d 0) (r.chain d) x (head_of ix key) (not_x d) (r.linked d hd))
       ]
 
+  grown_counted : (d : ℕ) → d < ix.buckets → get_or longer.lengths d 0 ≡ length (grown d)
+  grown_counted d hd =
+      elim (is (eqb d b)) [
+        | yes! e ↦ rw (e, eqb-true d b e, get_or-set_same ix.lengths b (length_of ix key + 1) 0 (omega (arith, hb, r.size_lengths, r.few_buckets)))
+            (omega (arith, r.counted b hb))
+        | no! e ↦ rw (e, get_or-set_other ix.lengths b d (length_of ix key + 1) 0 (eqb-false d b e)) (r.counted d hd)
+      ]
+
   chains_insert : length (r.chain b) < CHAIN → Chains c longer (put x (some b) g)
   chains_insert hl =
       record {
         size_heads = rw length-set r.size_heads;
+        size_lengths = rw length-set r.size_lengths;
         size_next = rw length-set r.size_next;
         small = r.small;
         some_buckets = r.some_buckets;
@@ -81,6 +90,7 @@ module _ (c : ℕ) (ix : Index) (g : ℕ → Option ℕ) (r : Chains c ix g) (ke
         linked = grown_linked;
         once = λ d. elim (is (eqb d b)) [ yes! e ↦ rw e (not_x b, r.once b) | no! e ↦ rw e (r.once d) ];
         short = λ d. elim (is (eqb d b)) [ yes! e ↦ rw e (omega arith) | no! e ↦ rw e (omega (arith, r.short d)) ];
+        counted = grown_counted;
         member = λ d y m. elim (is (eqb d b)) [
           | yes! e ↦ in_case (rw e at m) (λ q. rw (q, eq-eqb x x refl, eqb-true d b e)) (λ k. rw (ne_eqb y x (no_x b y k), eqb-true d b e) (r.member b y k))
           | no! e ↦ let k : In y (r.chain d) = rw e at m in rw (ne_eqb y x (no_x d y k)) (r.member d y k)

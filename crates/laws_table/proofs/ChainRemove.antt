@@ -2,7 +2,7 @@
 -- `remove` of the index is not refused for a slot of the key's chain: it is taken out of that chain, which keeps its order, and no
 -- other chain changes. Assumes nothing.
 use Rattle.std.proofs.Common.{if◌then◌else◌}
-use Prim.Native.Nat.{ℕ, zero, suc, ◌<◌, ◌≤◌}
+use Prim.Native.Nat.{ℕ, zero, suc, ◌-◌, ◌<◌, ◌≤◌}
 use native.Mathlib.Omega.{arith}
 use mathlib.Core.Path.{◌≡◌, refl, sym, ap, subst, ◌∙◌}
 use mathlib.Core.Bool.{false}
@@ -11,17 +11,17 @@ use mathlib.Core.Option.{Option, none, some}
 use lib.Dec.{eqb}
 use lib.ListN.{length, get_or, set, length-set}
 use lib.Seq.{get_or-set_same, get_or-set_other}
-use borrow.Author.Tests.{eqb-true, eqb-false, lt-leb, eq-eqb, ne_eqb}
+use borrow.Author.Tests.{eqb-true, eqb-false, lt-ltb, lt-leb, eq-eqb, ne_eqb}
 use Rattle.basics.specs.Try.{Try, ok}
 use Rattle.basics.specs.Numbers.{NONE}
 use Rattle.basics.specs.Members.{In, here, there, NotIn, Once}
 use Rattle.basics.proofs.Tests.{yes!, no!, is, some_same, none_some}
-use Rattle.basics.proofs.Members.{not_in, not_in_list, cut, cut_length, cut_in, in_cut, once_cut}
+use Rattle.basics.proofs.Members.{not_in, not_in_list, cut, cut_length, cut_shorter, cut_in, in_cut, once_cut}
 use Rattle.basics.proofs.Maps.{put}
 use Rattle.key.specs.declared.CacheKey.{CacheKey}
 use Rattle.key.specs.Bucket.{bucket_of}
 use Rattle.index.specs.declared.Index.{Index}
-use Rattle.index.specs.Chain.{CHAIN, head_of, next_of, unlinked, remove_from, remove_index}
+use Rattle.index.specs.Chain.{CHAIN, head_of, next_of, length_of, unlinked, remove_from, remove_index}
 use Rattle.laws_table.specs.Chains.{Linked, Chains}
 use Rattle.laws_table.proofs.ChainWalks.{linked_set, linked_low, index_sized}
 use Rattle.key.proofs.Buckets.{bucket_low}
@@ -122,14 +122,30 @@ module _ (c : ℕ) (ix : Index) (g : ℕ → Option ℕ) (r : Chains c ix g) (x 
   in_x : In x (r.chain b)
   in_x = r.complete b x hx gx
 
+  -- b's chain has x, so the length kept for it is not 0, and one less is that of the chain without x
+  kept_one : get_or ix.lengths b 0 ≡ suc (length (cut x (r.chain b)))
+  kept_one = r.counted b hb ∙ sym (cut_shorter in_x)
+
+  abbrev fewer : List ℕ
+  fewer = set ix.lengths b (get_or ix.lengths b 0 - 1)
+
+  fewer_counted : (d : ℕ) → d < ix.buckets → get_or fewer d 0 ≡ length (shorter d)
+  fewer_counted d hd =
+      elim (is (eqb d b)) [
+        | yes! e ↦ rw (e, eqb-true d b e, get_or-set_same ix.lengths b (get_or ix.lengths b 0 - 1) 0 (omega (arith, r.size_lengths, r.few_buckets)))
+            (omega (arith, kept_one))
+        | no! e ↦ rw (e, get_or-set_other ix.lengths b d (get_or ix.lengths b 0 - 1) 0 (eqb-false d b e)) (r.counted d hd)
+      ]
+
   -- from heads and next that are right for each chain, the rest follows
   build : (heads next : List ℕ) → length heads ≡ 512 → length next ≡ 256
       → ((d : ℕ) → d < ix.buckets → Linked next c (get_or heads d 0) (shorter d))
       → ((y : ℕ) → y < c → put x none g y ≡ none → get_or next y 0 ≡ NONE)
-      → Chains c (record { heads = heads; buckets = ix.buckets; next = next; free = ix.free; free_len = ix.free_len }) (put x none g)
+      → Chains c (record { heads = heads; lengths = fewer; buckets = ix.buckets; next = next; free = ix.free; free_len = ix.free_len }) (put x none g)
   build heads next sh sn lk lo =
       record {
         size_heads = sh;
+        size_lengths = rw length-set r.size_lengths;
         size_next = sn;
         small = r.small;
         some_buckets = r.some_buckets;
@@ -138,6 +154,7 @@ module _ (c : ℕ) (ix : Index) (g : ℕ → Option ℕ) (r : Chains c ix g) (x 
         linked = lk;
         once = λ d. elim (is (eqb d b)) [ yes! e ↦ rw e (once_cut x (r.chain b) (r.once b)) | no! e ↦ rw e (r.once d) ];
         short = λ d. elim (is (eqb d b)) [ yes! e ↦ rw e (omega (arith, cut_length x (r.chain b), r.short b)) | no! e ↦ rw e (r.short d) ];
+        counted = fewer_counted;
         member = λ d y m. elim (is (eqb d b)) [
           | yes! e ↦ let k = cut_in x y (r.chain b) (r.once b) (rw e at m) in rw (ne_eqb y x k.1, eqb-true d b e) (r.member b y k.0)
           | no! e ↦ let k : In y (r.chain d) = rw e at m in rw (ne_eqb y x (λ q. apart d x (eqb-false d b e) in_x (rw q at k))) (r.member d y k)
@@ -199,10 +216,12 @@ module _ (c : ℕ) (ix : Index) (g : ℕ → Option ℕ) (r : Chains c ix g) (ke
   remove_index_lem fits =
       let b : ℕ = bucket_of key ix.buckets in
       let hb : b < ix.buckets = bucket_low key ix.buckets r.some_buckets in
-      rw (index_sized c ix g r fits, remove_walk CHAIN c ix b x NONE (head_of ix key) (r.chain b) (r.linked b hb) (r.complete b x hx gx) (omega (arith, r.short b)))
+      let counts : 0 < length_of ix key = omega (arith, kept_one c ix g r x b hx hb gx) in
+      let lengths : List ℕ = fewer c ix g r x b hx hb gx in
+      rw (index_sized c ix g r fits, lt-ltb 0 (length_of ix key) counts, remove_walk CHAIN c ix b x NONE (head_of ix key) (r.chain b) (r.linked b hb) (r.complete b x hx gx) (omega (arith, r.short b)))
       (elim (own ix.next c (head_of ix key) x (r.chain b) (omega (arith, r.size_next, r.small)) (r.once b) (r.linked b hb) (r.complete b x hx gx)) [
         | first e h ↦ record {
-          index = record { heads = set ix.heads b (next_of ix x); buckets = ix.buckets; next = set ix.next x NONE; free = ix.free; free_len = ix.free_len };
+          index = record { heads = set ix.heads b (next_of ix x); lengths = lengths; buckets = ix.buckets; next = set ix.next x NONE; free = ix.free; free_len = ix.free_len };
           gives = rw e;
           chains = build c ix g r x b hx hb gx (set ix.heads b (next_of ix x)) (set ix.next x NONE) (rw length-set r.size_heads) (rw length-set r.size_next) (first_linked c ix g r x b hx hb gx h) (first_loose c ix g r x b hx hb gx);
           cuts = refl;
@@ -213,7 +232,7 @@ module _ (c : ℕ) (ix : Index) (g : ℕ → Option ℕ) (r : Chains c ix g) (ke
         | later m h ↦
             let p : ℕ = preceding NONE x (r.chain b) in
             record {
-              index = record { heads = ix.heads; buckets = ix.buckets; next = set (set ix.next p (next_of ix x)) x NONE; free = ix.free; free_len = ix.free_len };
+              index = record { heads = ix.heads; lengths = lengths; buckets = ix.buckets; next = set (set ix.next p (next_of ix x)) x NONE; free = ix.free; free_len = ix.free_len };
               gives = rw (ne_eqb p NONE (omega (arith, linked_low ix.next c (head_of ix key) (r.linked b hb) m, r.small)));
               chains = build c ix g r x b hx hb gx ix.heads (set (set ix.next p (next_of ix x)) x NONE) r.size_heads (rw (length-set, length-set) r.size_next) (later_linked c ix g r x b hx hb gx p m h) (later_loose c ix g r x b hx hb gx p m);
               cuts = refl;

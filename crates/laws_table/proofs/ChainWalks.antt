@@ -6,10 +6,10 @@ use mathlib.Core.Path.{◌≡◌, refl, sym, ◌∙◌}
 use mathlib.Core.Bool.{true}
 use mathlib.Core.List.{List, [], ◌∷◌}
 use mathlib.Core.Option.{Option}
-use lib.Dec.{ltb, leb-suc-suc}
+use lib.Dec.{ltb}
 use lib.ListN.{length, get_or, set}
 use lib.Seq.{get_or-set_other}
-use borrow.Author.Tests.{lt-ltb, le-leb, lt-leb, ne_eqb}
+use borrow.Author.Tests.{lt-ltb, le-leb}
 use Rattle.basics.specs.Try.{ok}
 use Rattle.basics.specs.Numbers.{NONE}
 use Rattle.basics.specs.Members.{In, here, there, NotIn}
@@ -17,7 +17,7 @@ use Rattle.key.specs.declared.CacheKey.{CacheKey}
 use Rattle.key.specs.Bucket.{bucket_of}
 use Rattle.key.proofs.Buckets.{bucket_low}
 use Rattle.index.specs.declared.Index.{Index}
-use Rattle.index.specs.Chain.{CHAIN, sizes, sized, head_of, next_of, room_from, can_insert}
+use Rattle.index.specs.Chain.{CHAIN, sizes, sized, can_insert}
 use Rattle.laws_table.specs.Chains.{Linked, Chains}
 
 -- a walk that ends at `NONE` and else goes on by `next`, of n steps: over a chain of at most n slots, each of which has P, it gives
@@ -55,27 +55,13 @@ linked_set next c s [] x v ni h = h
 linked_set next c s (y ∷ ys) x v ni h =
     (h.0, h.1, rw (get_or-set_other next x y v 0 (λ e. ni.0 (sym e))) (linked_set next c (get_or next y 0) ys x v ni.1 h.2))
 
--- a bucket is below the bucket count
--- `can_insert`, along a chain: whether it is shorter than the steps
-room_ends : (c : ℕ) (ix : Index) (n : ℕ) → room_from n c ix NONE ≡ ok (ltb 0 n)
-unfolding room_from
-room_ends c ix zero = refl
-room_ends c ix (suc n) = rw (lt-ltb 0 (suc n) (omega arith))
-
-room_goes : (c : ℕ) (ix : Index) → c ≤ 256 → (n x : ℕ) (xs : List ℕ) → x < c → Unit {0} → room_from n c ix (next_of ix x) ≡ ok (ltb (length xs) n) → room_from (suc n) c ix x ≡ ok (ltb (suc (length xs)) (suc n))
-unfolding room_from
-room_goes c ix hc n x xs hx u e = rw (ne_eqb x NONE (omega arith), lt-leb c x hx, leb-suc-suc (suc (length xs)) n) e
-
 module _ (c : ℕ) (ix : Index) (g : ℕ → Option ℕ) (r : Chains c ix g) (fits : ix.free_len ≤ c) where
   -- the first test of the index's rules passes
   pub index_sized : sized c ix ≡ true
   unfolding sizes
   index_sized = rw (le-leb c 256 r.small, lt-ltb 0 ix.buckets r.some_buckets, le-leb ix.buckets 512 r.few_buckets, le-leb ix.free_len c fits)
 
-  -- `can_insert`: whether the key's chain has fewer than 64 slots
+  -- `can_insert`, by the length kept: whether the key's chain has fewer than 64 slots
   pub can_insert_lem : (key : CacheKey) → can_insert c ix key ≡ ok (ltb (length (r.chain (bucket_of key ix.buckets))) CHAIN)
   unfolding can_insert
-  can_insert_lem key =
-      let b : ℕ = bucket_of key ix.buckets in
-      rw index_sized (walk_linked (λ n s. room_from n c ix s) (λ n xs. ok (ltb (length xs) n)) (λ x. Unit {0}) ix.next c (room_ends c ix) (room_goes c ix r.small) CHAIN (head_of ix key) (r.chain b)
-      (r.linked b (bucket_low key ix.buckets r.some_buckets)) (λ x m. tt) (omega (arith, r.short b)))
+  can_insert_lem key = rw (index_sized, r.counted (bucket_of key ix.buckets) (bucket_low key ix.buckets r.some_buckets))

@@ -51,6 +51,7 @@ module _ (c : ℕ) (h : c ≤ 256) (g : ℕ → Option ℕ) (nothing : (x : ℕ)
   fresh_chains =
       record {
         size_heads = filled_length (bucket_count c) (512 - bucket_count c) ∙ omega (arith, few_buckets c h);
+        size_lengths = length-replicate {A = ℕ} 512 0;
         size_next = filled_length c (256 - c) ∙ omega arith;
         small = h;
         some_buckets = some_bucket c (omega arith);
@@ -59,6 +60,7 @@ module _ (c : ℕ) (h : c ≤ 256) (g : ℕ → Option ℕ) (nothing : (x : ℕ)
         linked = λ b hb. filled (bucket_count c) (512 - bucket_count c) b hb;
         once = λ b. tt;
         short = λ b. omega arith;
+        counted = λ b hb. get_or-replicate 512 b 0 0 (omega (arith, few_buckets c h));
         member = λ b x m. in_none m;
         complete = λ b x hx e. absurd (none_some (sym (nothing x) ∙ e));
         loose = λ x hx e. filled c (256 - c) x hx;

@@ -1,10 +1,10 @@
 -- SPDX-License-Identifier: Apache-2.0
 -- The search for a key finds the slot that holds it, or none where none does; and what it does to the table. Assumes nothing.
+use Rattle.std.proofs.Common.{if◌then◌else◌}
 use Prim.Native.Nat.{ℕ, zero, suc, ◌+◌, ◌<◌, ◌≤◌}
 use native.Mathlib.Omega.{arith}
 use mathlib.Core.Path.{◌≡◌, refl, sym, ap, ◌∙◌}
 use mathlib.Core.Bool.{Bool, true, false≢true}
-use mathlib.Core.List.{List, ◌∷◌}
 use mathlib.Core.Option.{Option, none, some}
 use lib.Dec.{eqb}
 use lib.ListN.{get_or}
@@ -20,13 +20,14 @@ use Rattle.key.specs.declared.CacheKey.{CacheKey}
 use Rattle.key.specs.Key.{same_key}
 use Rattle.key.specs.Bucket.{bucket_of}
 use Rattle.key.proofs.Keys.{same_key_lem, key_eq}
-use Rattle.index.specs.Chain.{CHAIN, head_of, next_of}
+use Rattle.index.specs.Chain.{next_of, length_of}
 use Rattle.state.specs.declared.State.{State}
 use Rattle.state.specs.Slots.{slot_at, clean_slot, is_loading, is_clean, occupied}
 use Rattle.state.specs.Parts.{with_counters, count_progress}
-use Rattle.state.specs.Find.{Seek, found, waits, absent, find_from, find_key, touch_next, hit_at, seek_at, seek}
+use Rattle.state.specs.Find.{Seek, found, waits, absent, ended, find_from, find_key, touch_next, hit_at, seek_at, seek}
 use Rattle.laws_table.specs.Table.{Inv, Distinct, Dated, Absent, Step}
-use Rattle.laws_table.proofs.ChainWalks.{walk_linked, linked_low}
+use Rattle.laws_table.proofs.ChainWalks.{linked_low}
+use Rattle.laws_table.proofs.KeptWalks.{kept_walk}
 use Rattle.key.proofs.Buckets.{bucket_low}
 use Rattle.laws_table.proofs.SlotKinds.{bucket_occupied, bucket_some, occupied_loading}
 use Rattle.laws_table.proofs.TableParts.{sound_inv}
@@ -48,16 +49,15 @@ module _ (t : State) (v : Inv t) where
 abbrev holds : State → CacheKey → ℕ → Bool
 holds t key x = same_key (slot_at t x).key key
 
-find_ends : (t : State) (key : CacheKey) (n : ℕ) → find_from n t key NONE ≡ ok none
+find_ends : (t : State) (key : CacheKey) (n : ℕ) → find_from n t key NONE ≡ ended (length_of t.index key) n
 unfolding find_from
 find_ends t key zero = refl
 find_ends t key (suc n) = refl
 
-find_goes : (t : State) (key : CacheKey) → t.capacity ≤ 256 → (n x : ℕ) (xs : List ℕ) → x < t.capacity → occupied (slot_at t x) ≡ true
-    → find_from n t key (next_of t.index x) ≡ ok (first (holds t key) xs) → find_from (suc n) t key x ≡ ok (first (holds t key) (x ∷ xs))
-unfolding find_from first
-find_goes t key hc n x xs hx ho e =
-    rw (ne_eqb x NONE (omega arith), lt-leb t.capacity x hx, ho) (elim (is (holds t key x)) [ yes! q ↦ rw q | no! q ↦ rw q e ])
+find_goes : (t : State) (key : CacheKey) → t.capacity ≤ 256 → (n x : ℕ) → x < t.capacity → occupied (slot_at t x) ≡ true
+    → find_from (suc n) t key x ≡ (if holds t key x then ok (some x) else find_from n t key (next_of t.index x))
+unfolding find_from
+find_goes t key hc n x hx ho = rw (ne_eqb x NONE (omega arith), lt-leb t.capacity x hx, ho)
 
 -- what is found: the slot of the key, or none
 pub data FindsKey (t : State) (key : CacheKey) (r : Try (Option ℕ)) : Type 0 where
@@ -67,12 +67,12 @@ pub data FindsKey (t : State) (key : CacheKey) (r : Try (Option ℕ)) : Type 0 w
 module _ (t : State) (v : Inv t) (key : CacheKey) where
   -- the search of the chain is the search of its list
   find_list : find_key t key ≡ ok (first (holds t key) (v.chains.chain (bucket_of key t.index.buckets)))
-  unfolding find_key first
+  unfolding find_key
   find_list =
       let b : ℕ = bucket_of key t.index.buckets in
       let hb : b < t.index.buckets = bucket_low key t.index.buckets v.chains.some_buckets in
-      rw (sound_inv t v) (walk_linked (λ n s. find_from n t key s) (λ n xs. ok (first (holds t key) xs)) (λ x. occupied (slot_at t x) ≡ true) t.index.next t.capacity (find_ends t key) (find_goes t key v.small) CHAIN (head_of t.index key) (v.chains.chain b)
-      (v.chains.linked b hb) (λ x m. (in_chain t v b hb x m).1) (omega (arith, v.chains.short b)))
+      rw (sound_inv t v) (kept_walk v.chains key (λ n s. find_from n t key s) (holds t key) (find_ends t key)
+      (λ n x hx m. find_goes t key v.small n x hx (in_chain t v b hb x m).1))
 
   pub find_law : FindsKey t key (find_key t key)
   find_law =

@@ -22,6 +22,8 @@ pub mod StepHit
 pub mod StepLeave
 pub mod StepTokens
 pub mod StepReserve
+pub mod EveryTable
+pub mod KeptWalks
 pub mod KeySearch
 pub mod VictimSearch
 pub mod Misses

@@ -59,6 +59,7 @@ abbrev pub chains_stack : {c : ℕ} {ix : Index} {g : ℕ → Option ℕ} (free 
 chains_stack free n r =
     record {
       size_heads = r.size_heads;
+      size_lengths = r.size_lengths;
       size_next = r.size_next;
       small = r.small;
       some_buckets = r.some_buckets;
@@ -67,6 +68,7 @@ chains_stack free n r =
       linked = r.linked;
       once = r.once;
       short = r.short;
+      counted = r.counted;
       member = r.member;
       complete = r.complete;
       loose = r.loose;

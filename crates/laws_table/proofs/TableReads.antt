@@ -1,10 +1,10 @@
 -- SPDX-License-Identifier: Apache-2.0
 -- The reads do not give 10: `peek_clean` finds the clean slot of a key, `oldest_clean` a clean slot whose last use is the least. Assumes nothing.
+use Rattle.std.proofs.Common.{if◌then◌else◌}
 use Prim.Native.Nat.{ℕ, zero, suc, ◌<◌, ◌≤◌}
 use native.Mathlib.Omega.{arith}
 use mathlib.Core.Path.{◌≡◌, refl, sym, ap, ◌∙◌}
 use mathlib.Core.Bool.{Bool, true, false, ◌&&◌, false≢true}
-use mathlib.Core.List.{List, ◌∷◌}
 use mathlib.Core.Option.{Option, none, some}
 use lib.Dec.{ltb, eqb}
 use borrow.Author.Tests.{eqb-true, eqb-false, lt-ltb, le-ltb, lt-leb, ne_eqb}
@@ -19,19 +19,20 @@ use Rattle.key.specs.declared.CacheKey.{CacheKey}
 use Rattle.key.specs.Key.{same_key}
 use Rattle.key.specs.Bucket.{bucket_of}
 use Rattle.key.proofs.Keys.{same_key_lem, key_eq}
-use Rattle.index.specs.Chain.{CHAIN, head_of, next_of}
+use Rattle.index.specs.Chain.{next_of, length_of}
 use Rattle.eviction.specs.Entries.{at, pos_of}
 use Rattle.eviction.specs.Victim.{candidate_at, oldest_of}
 use Rattle.state.specs.declared.State.{State}
 use Rattle.state.specs.declared.LoadToken.{LoadToken}
 use Rattle.state.specs.Slots.{slot_at, is_clean, clean_with}
 use Rattle.state.specs.Tokens.{outstanding}
+use Rattle.state.specs.Find.{ended}
 use Rattle.state.specs.Reads.{validate, peek_from, peek_clean, clean_entry, cold_candidate, oldest_clean}
 use Rattle.laws_table.specs.Heap.{rank, rank_at}
 use Rattle.laws_table.specs.Table.{last_in, Inv}
 use Rattle.laws_table.proofs.Ranks.{root_places}
 use Rattle.laws_table.proofs.HeapSizes.{heap_sized}
-use Rattle.laws_table.proofs.ChainWalks.{walk_linked}
+use Rattle.laws_table.proofs.KeptWalks.{kept_walk}
 use Rattle.key.proofs.Buckets.{bucket_low}
 use Rattle.laws_table.proofs.SlotKinds.{clean_occupied}
 use Rattle.laws_table.proofs.TableParts.{at_place, place_of_lem, sound_inv}
@@ -41,15 +42,15 @@ use Rattle.laws_table.proofs.KeySearch.{in_chain, chain_in}
 abbrev has : State → CacheKey → ℕ → Bool
 has t key x = clean_with (slot_at t x) key
 
-peek_ends : (t : State) (key : CacheKey) (n : ℕ) → peek_from n t key NONE ≡ ok none
+peek_ends : (t : State) (key : CacheKey) (n : ℕ) → peek_from n t key NONE ≡ ended (length_of t.index key) n
 unfolding peek_from
 peek_ends t key zero = refl
 peek_ends t key (suc n) = refl
 
-peek_goes : (t : State) (key : CacheKey) → t.capacity ≤ 256 → (n x : ℕ) (xs : List ℕ) → x < t.capacity → Unit {0} → peek_from n t key (next_of t.index x) ≡ ok (first (has t key) xs) → peek_from (suc n) t key x ≡ ok (first (has t key) (x ∷ xs))
-unfolding peek_from first
-peek_goes t key hc n x xs hx u e =
-    rw (ne_eqb x NONE (omega arith), lt-leb t.capacity x hx) (elim (is (has t key x)) [ yes! q ↦ rw q | no! q ↦ rw q e ])
+peek_goes : (t : State) (key : CacheKey) → t.capacity ≤ 256 → (n x : ℕ) → x < t.capacity
+    → peek_from (suc n) t key x ≡ (if has t key x then ok (some x) else peek_from n t key (next_of t.index x))
+unfolding peek_from
+peek_goes t key hc n x hx = rw (ne_eqb x NONE (omega arith), lt-leb t.capacity x hx)
 
 clean_with_lem : (t : State) (key : CacheKey) (x : ℕ) → has t key x ≡ true → (is_clean (slot_at t x) ≡ true) × ((slot_at t x).key ≡ key)
 unfolding clean_with
@@ -73,12 +74,9 @@ pub data Oldest (t : State) (r : Try (Option ℕ)) : Type 0 where
 module _ (t : State) (v : Inv t) where
   module _ (key : CacheKey) where
     peek_list : peek_clean t key ≡ ok (first (has t key) (v.chains.chain (bucket_of key t.index.buckets)))
-    unfolding peek_clean first
+    unfolding peek_clean
     peek_list =
-        let b : ℕ = bucket_of key t.index.buckets in
-        let hb : b < t.index.buckets = bucket_low key t.index.buckets v.chains.some_buckets in
-        rw (sound_inv t v) (walk_linked (λ n s. peek_from n t key s) (λ n xs. ok (first (has t key) xs)) (λ x. Unit {0}) t.index.next t.capacity (peek_ends t key) (peek_goes t key v.small) CHAIN (head_of t.index key) (v.chains.chain b)
-        (v.chains.linked b hb) (λ x m. tt) (omega (arith, v.chains.short b)))
+        rw (sound_inv t v) (kept_walk v.chains key (λ n s. peek_from n t key s) (has t key) (peek_ends t key) (λ n x hx m. peek_goes t key v.small n x hx))
 
     pub peek_law : PeeksKey t key (peek_clean t key)
     peek_law =

@@ -15,6 +15,7 @@ Linked next c s (x ∷ xs) = (s ≡ x) × (x < c) × Linked next c (get_or next 
 -- the chains hold exactly the slots that `g` gives a bucket, each once, in the chain of its bucket
 pub record Chains (c : ℕ) (ix : Index) (g : ℕ → Option ℕ) : Type 0 where
   pub size_heads : length ix.heads ≡ 512
+  pub size_lengths : length ix.lengths ≡ 512
   pub size_next : length ix.next ≡ 256
   pub small : c ≤ 256
   pub some_buckets : 0 < ix.buckets
@@ -24,6 +25,8 @@ pub record Chains (c : ℕ) (ix : Index) (g : ℕ → Option ℕ) : Type 0 where
   pub once : (b : ℕ) → Once (chain b)
   -- "A chain holds at most 64 slots."
   pub short : (b : ℕ) → length (chain b) ≤ CHAIN
+  -- document 02: "Keep the length of each chain in the table instead."
+  pub counted : (b : ℕ) → b < ix.buckets → get_or ix.lengths b 0 ≡ length (chain b)
   pub member : (b x : ℕ) → In x (chain b) → g x ≡ some b
   pub complete : (b x : ℕ) → x < c → g x ≡ some b → In x (chain b)
   -- a slot of no chain links to nothing

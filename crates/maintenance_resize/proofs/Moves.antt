@@ -16,19 +16,21 @@ use Rattle.basics.specs.Numbers.{NONE}
 use Rattle.basics.specs.Lists.{each_slot}
 use Rattle.basics.proofs.Tests.{yes!, no!, is, no_ltb, some_ltb, met, left_suc, left_none, refuse_ok}
 use Rattle.key.specs.declared.CacheKey.{CacheKey}
-use Rattle.index.specs.Chain.{CHAIN, head_of, next_of}
+use Rattle.index.specs.Chain.{CHAIN, head_of, next_of, length_of}
 use Rattle.eviction.specs.Entries.{at}
 use Rattle.state.specs.declared.State.{State}
 use Rattle.state.specs.declared.Slot.{Slot}
 use Rattle.state.specs.Slots.{slot_at, vacant_slot, clean_with}
 use Rattle.state.specs.Fresh.{sound}
+use Rattle.state.specs.Find.{ended}
 use Rattle.state.specs.Remove.{detach_clean, remove_clean}
 use Rattle.state.specs.Reads.{peek_from, peek_clean}
-use Rattle.state.proofs.Cases.{sound_sizes_lem}
+use Rattle.state.proofs.Cases.{sound_sizes_lem, ended_no_slot}
 use Rattle.maintenance_restore.specs.Answers.{restored}
 use Rattle.maintenance_restore.specs.Restore.{restore}
 use Rattle.std.specs.Prelude.{Ok}
-use Rattle.maintenance_resize.specs.Move.{Moving, moving_of, leave_to, leave_pinned, drop_oldest, keep_new, restore_unless, restore_rest, move_or_remove, move_rest}
+use Rattle.maintenance_resize.specs.Move.{Moving, moving_of, leave_to, leave_pinned, drop_oldest}
+use Rattle.maintenance_resize.specs.Move.{keep_new, restore_unless, restore_rest, move_or_remove, move_rest}
 use lib.Seq.{take-set-lt, get_or-take}
 
 -- ---- a step for each slot
@@ -47,25 +49,26 @@ peek_rest : (k : Bool) (c s x : ℕ) (r : Try (Option ℕ)) → s < c → (if k 
 peek_rest true c s x r l e f = let q : s ≡ x = cc in omega arith
 peek_rest false c s x r l e f = f e
 
-peek_far : (b : Bool) (c s : ℕ) (k : Bool) (x : ℕ) (r : Try (Option ℕ))
-    → (if b then ok none else if leb c s then refuse STOP else if k then ok (some s) else r) ≡ ok (some x)
+peek_far : (b : Bool) (kept left c s : ℕ) (k : Bool) (x : ℕ) (r : Try (Option ℕ))
+    → (if b then ended kept left else if leb c s then refuse STOP else if k then ok (some s) else r) ≡ ok (some x)
     → (r ≡ ok (some x) → x < c) → x < c
-peek_far true c s k x r e f = let z : ◌≡◌ {A = ℕ} 0 1 = cc in absurd (omega arith)
-peek_far false c s k x r e f =
+peek_far true kept left c s k x r e f = absurd (ended_no_slot kept left x e)
+peek_far false kept left c s k x r e f =
     elim (is (leb c s)) [
       | yes! l ↦ absurd (refuse_ok {a = some x} (rw l at e))
       | no! l ↦ peek_rest k c s x r (leb-false c s l) (rw l at e) f
     ]
 
-peek_last : (b : Bool) (c x : ℕ) → (if b then ok none else refuse STOP) ≡ ok (some x) → x < c
-peek_last true c x e = let z : ◌≡◌ {A = ℕ} 0 1 = cc in absurd (omega arith)
-peek_last false c x e = absurd (refuse_ok e)
+peek_last : (b : Bool) (kept c x : ℕ) → (if b then ended kept 0 else refuse STOP) ≡ ok (some x) → x < c
+peek_last true kept c x e = absurd (ended_no_slot kept 0 x e)
+peek_last false kept c x e = absurd (refuse_ok e)
 
 peek_from_low : (n : ℕ) (t : State) (key : CacheKey) (s x : ℕ) → peek_from n t key s ≡ ok (some x) → x < t.capacity
 unfolding peek_from
-peek_from_low zero t key s x e = peek_last (eqb s NONE) t.capacity x e
+peek_from_low zero t key s x e = peek_last (eqb s NONE) (length_of t.index key) t.capacity x e
 peek_from_low (suc n) t key s x e =
-    peek_far (eqb s NONE) t.capacity s (clean_with (slot_at t s) key) x _ e (λ q. peek_from_low n t key (next_of t.index s) x q)
+    peek_far (eqb s NONE) (length_of t.index key) (suc n) t.capacity s (clean_with (slot_at t s) key) x _ e
+    (λ q. peek_from_low n t key (next_of t.index s) x q)
 
 pub peek_low : {x : ℕ} (t : State) (key : CacheKey) → ok (some x) ≡ peek_clean t key → x < 256
 unfolding peek_clean

@@ -144,12 +144,13 @@ pub fn put_words(page: &mut Page, list: &[u16], count: usize)
     put_list(page, list, count);
 }
 
-// Bucket count, heads, next, and the free stack.
+// Bucket count, heads, lengths of the chains, next, and the free stack.
 fn put_index(page: &mut Page, index: &Index, capacity: usize)
     ensures { Wrote page.old (spaced (index_numbers index.now capacity)) page.new }
 {
     page.put(index.buckets);
     put_words(page, &index.heads, index.buckets);
+    put_list(page, &index.lengths, index.buckets);
     put_words(page, &index.next, capacity);
     page.put(index.free_len);
     put_words(page, &index.free, index.free_len);
@@ -164,7 +165,7 @@ fn put_heap(page: &mut Page, heap: &EvictionHeap, capacity: usize)
     put_words(page, &heap.positions, capacity);
 }
 
-// A table: 2 to 9 of the trace.
+// A table: 2 to 10 of the trace.
 pub fn put_table(page: &mut Page, t: &State)
     ensures { Wrote page.old (spaced (table_numbers t.now)) page.new }
 {
@@ -190,6 +191,7 @@ fn put_index_past(page: &mut Page, index: &Index, capacity: usize)
     ensures { Wrote page.old (spaced (index_past index.now capacity)) page.new }
 {
     put_list_past(page, &index.heads, index.buckets);
+    put_list_past(page, &index.lengths, index.buckets);
     put_list_past(page, &index.next, capacity);
     put_list_past(page, &index.free, index.free_len);
 }
@@ -202,7 +204,7 @@ fn put_heap_past(page: &mut Page, heap: &EvictionHeap, capacity: usize)
     put_list_past(page, &heap.positions, capacity);
 }
 
-// Of a table: 11 of the trace, without the pins.
+// Of a table: 12 of the trace, without the pins.
 pub fn put_past(page: &mut Page, t: &State)
     ensures { Wrote page.old (spaced (past_numbers t.now)) page.new }
 {

@@ -1,8 +1,9 @@
 -- SPDX-License-Identifier: Apache-2.0
--- What the proofs of the table's functions share and callers cite: the first test. Assumes nothing.
+-- What the proofs of the table's functions share and callers cite: the first test, and the end of a chain. Assumes nothing.
 use Prim.Native.Nat.{ℕ, ◌≤◌, ◌<◌}
 use mathlib.Core.Path.{◌≡◌, refl, sym}
 use mathlib.Core.Bool.{Bool, true, ◌&&◌}
+use mathlib.Core.Option.{some}
 use Rattle.std.specs.Prelude.{Result, Ok, Err, nat_eq}
 use Rattle.std.specs.Result.{result_eq}
 use native.Mathlib.Omega.{arith}
@@ -11,12 +12,15 @@ use borrow.Author.Tests.{ltb-true, leb-true, eqb-true, eqb-false, lt-ltb, le-leb
 use Rattle.basics.specs.Try.{Try, ok, refuse, ◌>>◌}
 use Rattle.basics.specs.declared.Refusal.{Refusal}
 use Rattle.basics.specs.Answers.{Fine, done, answer}
+use Rattle.basics.specs.Refusals.{STOP}
 use Rattle.basics.specs.Capacity.{need_capacity}
-use Rattle.basics.proofs.Tests.{yes!, no!, is, and_left, and_right, refuse_ok}
+use Rattle.basics.proofs.Tests.{yes!, no!, is, and_left, and_right, refuse_ok, none_some, ok_same}
 use Rattle.basics.proofs.Capacities.{capacity_fits, capacity_allowed}
 use Rattle.key.specs.Bucket.{bucket_count, count_for}
 use Rattle.key.proofs.Least.{some_bucket, few_buckets}
+use Rattle.index.specs.Chain.{walked}
 use Rattle.state.specs.Fresh.{sound_sizes}
+use Rattle.state.specs.Find.{ended}
 
 -- ---- the first test
 
@@ -78,3 +82,9 @@ sizes_told c buckets f (Err why) e =
             absurd (refuse_ok {a = bucket_count c} (rw (capacity_allowed c (ltb-true _ _ v) (leb-true _ _ w)) at e))
       ]
     ]
+
+-- ---- the end of a chain
+
+-- it gives no slot
+pub ended_no_slot : (kept left x : ℕ) → ended kept left ≡ ok (some x) → ⊥
+ended_no_slot kept left x e = elim (is (walked kept left)) [ yes! w ↦ none_some (ok_same (rw w at e)) | no! w ↦ refuse_ok {n = STOP} (rw w at e) ]

@@ -7,7 +7,7 @@ use Rattle.basics.specs.Refusals.{STOP, EXHAUSTED}
 use Rattle.basics.specs.Numbers.{NONE, MAX}
 use Rattle.key.specs.declared.CacheKey.{CacheKey}
 use Rattle.key.specs.Key.{same_key}
-use Rattle.index.specs.Chain.{CHAIN, head_of, next_of}
+use Rattle.index.specs.Chain.{CHAIN, head_of, next_of, length_of, walked}
 use Rattle.eviction.specs.declared.EvictionHeap.{EvictionHeap}
 use Rattle.eviction.specs.Heap.{touch_heap}
 use Rattle.state.specs.declared.State.{State}
@@ -15,11 +15,17 @@ use Rattle.state.specs.Fresh.{sound}
 use Rattle.state.specs.Slots.{slot_at, is_clean, occupied, clean_slot}
 use Rattle.state.specs.Parts.{with_slot, with_heap, with_numbers, with_counters, count_hit, count_progress}
 
--- `Index::find`: the slot of the chain, from `slot` on, that holds the key; a vacant one stops it
+-- the end of a chain for which a length is kept, with steps left. Document 02: "A made-up table whose kept length differs from a chain that a call walks to
+-- its end .. is met with 10."
+abbrev pub ended : ℕ → ℕ → Try (Option ℕ)
+ended kept left = if walked kept left then ok none else refuse STOP
+
+-- `Index::find`: the slot of the chain, from `slot` on, that holds the key; a vacant one stops it. Document 02: "A search or removal that stops at a slot has
+-- not walked to the end."
 unfoldable pub find_from : ℕ → State → CacheKey → ℕ → Try (Option ℕ)
-find_from zero t key slot = if eqb slot NONE then ok none else refuse STOP
+find_from zero t key slot = if eqb slot NONE then ended (length_of t.index key) 0 else refuse STOP
 find_from (suc left) t key slot =
-    if eqb slot NONE then ok none else
+    if eqb slot NONE then ended (length_of t.index key) (suc left) else
     if leb t.capacity slot then refuse STOP else
     if not (occupied (slot_at t slot)) then refuse STOP else
     if same_key (slot_at t slot).key key then ok (some slot) else

@@ -7,13 +7,14 @@ use Rattle.basics.specs.Refusals.{STOP, STALE}
 use Rattle.basics.specs.Numbers.{NONE}
 use Rattle.basics.specs.Answers.{Fine, done}
 use Rattle.key.specs.declared.CacheKey.{CacheKey}
-use Rattle.index.specs.Chain.{CHAIN, head_of, next_of}
+use Rattle.index.specs.Chain.{CHAIN, head_of, next_of, length_of}
 use Rattle.eviction.specs.Victim.{candidate_at, oldest_of}
 use Rattle.state.specs.declared.State.{State}
 use Rattle.state.specs.declared.LoadToken.{LoadToken}
 use Rattle.state.specs.Slots.{slot_at, is_clean, clean_with}
 use Rattle.state.specs.Answers.{KeyUse}
 use Rattle.state.specs.Fresh.{sound}
+use Rattle.state.specs.Find.{ended}
 use Rattle.state.specs.Tokens.{outstanding}
 
 -- `validate`
@@ -23,11 +24,11 @@ validate t k = do
   need (outstanding t k) STALE
   ok done
 
--- `peek_clean`: the slot of the chain, from `slot` on, that is clean with the key
+-- `peek_clean`: the slot of the chain, from `slot` on, that is clean with the key; the end of the chain as in `find_from`
 unfoldable pub peek_from : ℕ → State → CacheKey → ℕ → Try (Option ℕ)
-peek_from zero t key slot = if eqb slot NONE then ok none else refuse STOP
+peek_from zero t key slot = if eqb slot NONE then ended (length_of t.index key) 0 else refuse STOP
 peek_from (suc left) t key slot =
-    if eqb slot NONE then ok none else
+    if eqb slot NONE then ended (length_of t.index key) (suc left) else
     if leb t.capacity slot then refuse STOP else
     if clean_with (slot_at t slot) key then ok (some slot) else
     peek_from left t key (next_of t.index slot)

@@ -3,9 +3,10 @@
 use Rattle.std.proofs.Common.{if◌then◌else◌}
 use Prim.Native.Nat.{ℕ, zero, suc, ◌+◌, ◌-◌, ◌≤◌, ◌<◌}
 use mathlib.Core.Path.{◌≡◌, refl}
-use mathlib.Core.Option.{none, some}
+use mathlib.Core.Option.{some}
 use native.Mathlib.Omega.{arith}
 use lib.Dec.{leb, eqb}
+use borrow.Author.Tests.{eqb-true, eqb-false, eq-eqb, ne_eqb}
 use Rattle.basics.specs.Try.{Try, ok, refuse, ◌>>=◌}
 use mathlib.Core.Bool.{Bool}
 use Rattle.state.specs.declared.Slot.{Slot}
@@ -14,26 +15,27 @@ use Rattle.basics.specs.Refusals.{STOP}
 use Rattle.basics.specs.Numbers.{NONE}
 use Rattle.basics.proofs.Tests.{yes!, no!, is, left_suc}
 use Rattle.key.specs.declared.CacheKey.{CacheKey}
-use Rattle.index.specs.Chain.{CHAIN, head_of, next_of}
+use Rattle.index.specs.Chain.{CHAIN, head_of, next_of, length_of, walked}
 use Rattle.state.specs.declared.State.{State}
 use Rattle.state.specs.Slots.{slot_at, occupied}
-use Rattle.state.specs.Find.{find_from, find_key}
+use Rattle.state.specs.Find.{ended, find_from, find_key}
 use Rattle.state.specs.Reads.{peek_from, peek_clean}
 
-pub walk_step : (rule : Slot → Try Bool) (steps : ℕ) (t : State) (s i : ℕ) → i < steps
-    → walk_from rule (steps - i) t s
-    ≡ (if eqb s NONE then ok none else
+pub walk_step : (rule : Slot → Try Bool) (steps : ℕ) (t : State) (key : CacheKey) (s i : ℕ) → i < steps
+    → walk_from rule (steps - i) t key s
+    ≡ (if eqb s NONE then ended (length_of t.index key) (steps - i) else
     if leb t.capacity s then refuse STOP else
-    (rule (slot_at t s) >>= λ here. if here then ok (some s) else walk_from rule (steps - (i + 1)) t (next_of t.index s)))
+    (rule (slot_at t s) >>= λ here. if here then ok (some s) else walk_from rule (steps - (i + 1)) t key (next_of t.index s)))
 unfolding walk_from
-walk_step rule steps t s i l = rw (left_suc steps i l)
+walk_step rule steps t key s i l = rw (left_suc steps i l)
 
-pub walk_end : (rule : Slot → Try Bool) (n : ℕ) (t : State) (s : ℕ) → n ≤ 0 → walk_from rule n t s ≡ (if eqb s NONE then ok none else refuse STOP)
+pub walk_end : (rule : Slot → Try Bool) (n : ℕ) (t : State) (key : CacheKey) (s : ℕ) → n ≤ 0
+    → walk_from rule n t key s ≡ (if eqb s NONE then ended (length_of t.index key) 0 else refuse STOP)
 unfolding walk_from
-walk_end rule zero t s l = refl
-walk_end rule (suc n) t s l = absurd (omega arith)
+walk_end rule zero t key s l = refl
+walk_end rule (suc n) t key s l = absurd (omega arith)
 
-find_from_walk : (n : ℕ) (t : State) (key : CacheKey) (s : ℕ) → walk_from (find_test key) n t s ≡ find_from n t key s
+find_from_walk : (n : ℕ) (t : State) (key : CacheKey) (s : ℕ) → walk_from (find_test key) n t key s ≡ find_from n t key s
 unfolding walk_from find_from find_test
 find_from_walk zero t key s = refl
 find_from_walk (suc n) t key s = elim (is (occupied (slot_at t s))) [
@@ -41,7 +43,7 @@ find_from_walk (suc n) t key s = elim (is (occupied (slot_at t s))) [
   | yes! v ↦ rw (v, find_from_walk n t key (next_of t.index s))
 ]
 
-peek_from_walk : (n : ℕ) (t : State) (key : CacheKey) (s : ℕ) → walk_from (peek_test key) n t s ≡ peek_from n t key s
+peek_from_walk : (n : ℕ) (t : State) (key : CacheKey) (s : ℕ) → walk_from (peek_test key) n t key s ≡ peek_from n t key s
 unfolding walk_from peek_from peek_test
 peek_from_walk zero t key s = refl
 peek_from_walk (suc n) t key s = rw (peek_from_walk n t key (next_of t.index s))
@@ -53,3 +55,12 @@ find_walk t key = rw (find_from_walk CHAIN t key (head_of t.index key))
 pub peek_walk : (t : State) (key : CacheKey) → walk_key (peek_test key) t key ≡ peek_clean t key
 unfolding walk_key peek_clean
 peek_walk t key = rw (peek_from_walk CHAIN t key (head_of t.index key))
+
+-- the length kept is what was walked where the steps that are left say so
+pub walked_all : (kept steps : ℕ) → steps ≤ CHAIN → walked kept (CHAIN - steps) ≡ eqb kept steps
+unfolding walked
+walked_all kept steps h =
+    elim (is (eqb kept steps)) [
+      | yes! e ↦ rw e (eq-eqb (kept + (CHAIN - steps)) CHAIN (omega (arith, eqb-true kept steps e)))
+      | no! e ↦ rw e (ne_eqb (kept + (CHAIN - steps)) CHAIN (λ q. eqb-false kept steps e (omega arith)))
+    ]

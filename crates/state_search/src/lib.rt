@@ -6,17 +6,19 @@
 // any table; a refusal leaves it as it was.
 #![tactic(auto)]
 
-ghost use Rattle.std.specs.Prelude.{◌≡◌, ◌<◌, Bool, IfOk, IfSome, MatchResult};
+ghost use Rattle.std.specs.Prelude.{◌≡◌, ◌<◌, ◌≤◌, ◌-◌, Bool, IfOk, IfSome, MatchResult};
+ghost use Rattle.index.specs.Chain.{CHAIN, length_of};
 ghost use Rattle.basics.specs.Try.{Try, ok, refuse};
 ghost use Rattle.basics.specs.Answers.{number, answer, found_answer};
 ghost use Rattle.state.specs.Slots.{occupied, clean_with};
-ghost use Rattle.state.specs.Find.{find_key, touch_next, seek};
+ghost use Rattle.state.specs.Find.{ended, find_key, touch_next, seek};
 ghost use Rattle.state.specs.Reads.{peek_clean};
 ghost use Rattle.state_search.specs.Sought.{seen_of, Follows, walk_key, find_test, peek_test};
 ghost use Rattle.state.specs.declared.Slot.{Slot as SlotRecord};
 
 use basics::{NO_SLOT, Refusal};
 use eviction::EvictionHeap;
+use index::Index;
 use index_chains::MAX_CHAIN;
 use key::CacheKey;
 use state::{CLEAN, LOADING, Slot, State};
@@ -59,6 +61,19 @@ fn touch_next(
     eviction_sift::touch(heap, capacity, slot, next)
 }
 
+// The end of the key's chain behind so many slots: no slot, where the length kept is what was walked.
+#[tactic(auto, using(crate::proofs::Cases::walked_all))]
+fn at_end(index: &Index, key: CacheKey, walked: usize) -> Result<Option<usize>, Refusal>
+    requires { walked ≤ CHAIN }
+    ensures slot { found_answer result ≡ ended (length_of index.now key) (CHAIN - walked) }
+    ensures inside { IfOk result (λ found. IfSome found (λ slot. slot < 256)) }
+{
+    if index.length_of(key) != walked {
+        return Err(Refusal::Stop);
+    }
+    Ok(None)
+}
+
 // The walk of a key's chain, to the first slot at which the test `here` is true; a test may be a stop. It is of any rule that says what the test does.
 #[tactic(auto, using(basics::proofs::Tests::tests, crate::proofs::Cases::walk_step, crate::proofs::Cases::walk_end), unfolding(crate::specs::Sought::walk_key))]
 fn walk<F: Fn(Slot) -> Result<bool, Refusal>>(
@@ -72,9 +87,9 @@ fn walk<F: Fn(Slot) -> Result<bool, Refusal>>(
 {
     t.check_sound()?;
     let mut slot = t.index.head(key);
-    for _ in 0..MAX_CHAIN {
+    for walked in 0..MAX_CHAIN {
         if slot == NO_SLOT {
-            return Ok(None);
+            return at_end(&t.index, key, walked);
         }
         if t.capacity <= slot {
             return Err(Refusal::Stop);
@@ -85,7 +100,7 @@ fn walk<F: Fn(Slot) -> Result<bool, Refusal>>(
         slot = t.index.next_in_chain(slot);
     }
     if slot == NO_SLOT {
-        Ok(None)
+        at_end(&t.index, key, MAX_CHAIN)
     } else {
         Err(Refusal::Stop)
     }

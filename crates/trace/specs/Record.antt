@@ -12,7 +12,7 @@ use Rattle.picture.specs.Table.{table_numbers, past_numbers}
 unfoldable pub front : List ℕ → List ℕ
 front line = take (length line - 1) line
 
--- 2 to 11: the table, "pins: one number for each slot below the capacity, 0 or 1", and the places past the lengths, those of the pins last
+-- 2 to 12: the table, "pins: one number for each slot below the capacity, 0 or 1", and the places past the lengths, those of the pins last
 unfoldable pub standing_numbers : Standing → List ℕ
 standing_numbers s =
     table_numbers s.state ++ take s.state.capacity s.pins

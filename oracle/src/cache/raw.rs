@@ -1,6 +1,7 @@
 // SPDX-License-Identifier: Apache-2.0
 //! The original table with public functions. Each call below runs the original; nothing here decides an answer but that the
-//! original's stop is 10. Document 01's own rules stand in front of these calls, in calls.rs.
+//! original's stop is 10. Document 01's own rules stand in front of these calls, in calls.rs. Document 02's chain lengths are kept here beside the
+//! original table; what they decide stands in calls.rs too.
 
 use alloc::rc::Rc;
 use core::cell::{Cell, RefCell};
@@ -20,7 +21,12 @@ use crate::picture::{CLEAN, NONE, Picture, Record, narrow};
 
 pub const STOP: u8 = 10;
 
-pub struct Table(State);
+pub struct Table {
+    state: State,
+    /// The kept length of each bucket's chain: one less for each key that left it, one more for each that came in. It is below 0 where more keys left than
+    /// were kept, which calls.rs takes back.
+    lengths: Vec<i16>,
+}
 
 #[derive(Clone, Copy, Debug, Eq, PartialEq)]
 pub enum Access {
@@ -34,46 +40,91 @@ pub enum Access {
 pub enum Maintained {
     Unchanged,
     Busy,
-    /// `overwritten`: the original moved two pages to one new slot, so that only the second is found there.
+    /// `overwritten`: the original moved two pages to one new slot, so that only the second is found there. `below`: the keys that were removed from
+    /// the old table take a kept length of it below 0.
     Resized {
         capacity: usize,
         overwritten: bool,
+        below: bool,
     },
 }
 
 impl Clone for Table {
     fn clone(&self) -> Self {
-        Self(self.0.copy())
+        Self { state: self.state.copy(), lengths: self.lengths.clone() }
     }
 }
 
 impl Table {
     pub fn try_new(capacity: usize) -> Result<Self, u8> {
-        State::try_new(capacity).map(Self).map_err(refusal)
+        State::try_new(capacity).map(Self::walked_anew).map_err(refusal)
     }
 
     pub fn from_picture(picture: &Picture) -> Self {
-        Self(State::from_picture(picture))
+        Self { state: State::from_picture(picture), lengths: picture.lengths.iter().map(|length| i16::from(*length)).collect() }
+    }
+
+    /// A table that was made by inserts alone: its lengths are those of its chains.
+    fn walked_anew(state: State) -> Self {
+        let lengths = state.picture().walked().into_iter().map(i16::from).collect();
+        Self { state, lengths }
     }
 
     pub fn picture(&self) -> Picture {
-        self.0.picture()
+        let lengths = self.lengths.iter().map(|length| u8::try_from(*length).expect("a length that calls.rs let be")).collect();
+        Picture { lengths, ..self.state.picture() }
+    }
+
+    /// The length kept for the key's chain.
+    pub fn length_of(&self, key: CacheKey) -> usize {
+        self.lengths[self.bucket(key)] as usize
+    }
+
+    /// Whether more keys left a chain than were kept.
+    pub fn below(&self) -> bool {
+        self.lengths.iter().any(|length| *length < 0)
+    }
+
+    /// How many slots a search of the key walks where it comes to the end of its chain, by the original's own search; None where it finds the key or stops.
+    /// `peek`: the search of `peek_clean`, else that of access and lookup.
+    pub fn walked(&self, key: CacheKey, peek: bool) -> Option<usize> {
+        stopped(|| self.state.walked(key, peek)).flatten()
+    }
+
+    fn bucket(&self, key: CacheKey) -> usize {
+        key.bucket_of(self.lengths.len() as u64) as usize
+    }
+
+    /// The lengths after a call: a key that was in a slot and is no longer has left its chain, and one that is and was not has come into its chain.
+    fn keep_lengths(&mut self, before: &State) {
+        for slot in 0..before.capacity() {
+            let (was, is) = (before.key_of(slot), self.state.key_of(slot));
+            if was == is {
+                continue;
+            }
+            for (key, by) in [(was, -1), (is, 1)] {
+                if let Some(key) = key {
+                    let bucket = self.bucket(key);
+                    self.lengths[bucket] += by;
+                }
+            }
+        }
     }
 
     pub fn capacity(&self) -> usize {
-        self.0.capacity()
+        self.state.capacity()
     }
 
     pub fn clean(&self) -> usize {
-        self.0.clean()
+        self.state.clean()
     }
 
     pub fn loading(&self) -> usize {
-        self.0.loading()
+        self.state.loading()
     }
 
     pub fn last_use_given(&self) -> u64 {
-        self.0.last_use_given()
+        self.state.last_use_given()
     }
 
     /// The original's `evictable` is "has a page that is not pinned"; document 01 gives it pin bytes.
@@ -94,9 +145,9 @@ impl Table {
         let cache = self.cache(pins, &Dropped::default(), |kind, _| kind == CLEAN);
         gate.set(&cache);
         cache.set_admission(allow);
-        let before = self.picture();
+        let before = self.state.picture();
         let answer = self.access(key, cache.prefetch_allowed(), pins);
-        if before.fault().is_some() {
+        if before.fault_of_original().is_some() {
             return answer;
         }
         let through = stopped(|| cache.access(key)).expect("no stop on a table without fault").map_err(cache_refusal);
@@ -111,8 +162,12 @@ impl Table {
         });
         *gate = Gate::of(&cache);
         let after = cache.state.with(|control| control.table.take()).expect("a table after access").model;
-        assert_eq!((&through, after.picture()), (&answer, self.picture()), "access through the gate, and with loading allowed as it says");
-        self.0 = after;
+        assert_eq!(
+            (&through, after.picture()),
+            (&answer, self.state.picture()),
+            "access through the gate, and with loading allowed as it says"
+        );
+        self.state = after;
         through
     }
 
@@ -172,10 +227,11 @@ impl Table {
             Err(error) => Some(Err(cache_refusal(error))),
         };
         if let Some(answer) = unmade {
-            self.0 = new.model;
+            self.state = new.model;
             return answer;
         }
-        self.fill_list(&new, pins, &dropped.borrow(), list);
+        let removed = self.removed(&new, pins, &dropped.borrow());
+        self.fill_list(&new, &removed, list);
         let mut pages = vec![NONE; list.len()];
         for (slot, page) in new.pages.iter().enumerate() {
             if let Some(page) = page {
@@ -185,30 +241,51 @@ impl Table {
         assert!(pages.iter().zip(&*list).all(|(page, new)| *page == NONE || page == new), "the list is off the pages");
         let overwritten = *pages != *list;
         let capacity = new.model.capacity();
-        self.0 = new.model;
-        Ok(Maintained::Resized { capacity, overwritten })
+        for slot in removed.all() {
+            let bucket = self.bucket(self.state.key_of(slot).expect("the key of a clean slot"));
+            self.lengths[bucket] -= 1;
+        }
+        let below = self.below();
+        *self = Self::walked_anew(new.model);
+        Ok(Maintained::Resized { capacity, overwritten, below })
+    }
+
+    /// Which keys a resize that made a new table removed from the old one; none where an empty table was made anew.
+    /// `dropped` tells those removed to make room: its first pages are those that were overwritten while the keys of pinned slots were moved,
+    /// the next ones are those removed to make room.
+    fn removed(&self, new: &CacheState<Page>, pins: &[u8], dropped: &[usize]) -> Removed {
+        let (old, new) = (&self.state, &new.model);
+        if old.clean() == 0 && new.capacity() < old.capacity() {
+            return Removed::default();
+        }
+        let clean = || (0..old.capacity()).filter_map(|slot| Some((slot, old.clean_entry(slot)?.0)));
+        let pinned: Vec<CacheKey> = clean().filter(|(slot, _)| pins[*slot] != 0).map(|(_, key)| key).collect();
+        let keys: HashSet<CacheKey> = pinned.iter().copied().collect();
+        let moved: Vec<usize> = clean().filter(|(_, key)| keys.contains(key)).map(|(slot, _)| slot).collect();
+        let overwritten = moved.len() - keys.len();
+        let for_room = (old.clean() - moved.len()).saturating_sub(new.capacity() - pinned.len());
+        let for_room = dropped[overwritten..overwritten + for_room].to_vec();
+        let stays = |slot: &usize| !moved.contains(slot) && !for_room.contains(slot);
+        let refused: Vec<usize> =
+            clean().filter(|(slot, key)| stays(slot) && new.peek_clean(*key).is_none()).map(|(slot, _)| slot).collect();
+        let evictions = |state: &State| state.picture().counters[2];
+        let counted = evictions(old).saturating_add((for_room.len() + refused.len()) as u64);
+        assert_eq!(evictions(new), counted, "each key removed to make room, and each that a chain refused, is an eviction");
+        Removed { moved, for_room, refused }
     }
 
     /// Each clean old slot gets what `peek_clean` of its key says in the new table when the original moves its page, which
     /// is what it says at the end, since a key is restored there once or before all moves. Where a key stands once, that is
     /// where its page is found. Keys that were removed to make room get none, though a double of them may have been moved.
-    /// `dropped` tells them: its first pages are those that were overwritten while the keys of pinned slots were moved,
-    /// the next ones are those removed to make room.
-    fn fill_list(&self, new: &CacheState<Page>, pins: &[u8], dropped: &[usize], list: &mut [u16]) {
+    fn fill_list(&self, new: &CacheState<Page>, removed: &Removed, list: &mut [u16]) {
         list.fill(NONE);
         if new.model.clean() == 0 {
             return;
         }
-        let old = &self.0;
-        let clean = || (0..old.capacity()).filter_map(|slot| Some((slot, old.clean_entry(slot)?.0)));
-        let pinned: Vec<CacheKey> = clean().filter(|(slot, _)| pins[*slot] != 0).map(|(_, key)| key).collect();
-        let keys: HashSet<CacheKey> = pinned.iter().copied().collect();
-        let moved = clean().filter(|(_, key)| keys.contains(key)).count();
-        let overwritten = moved - keys.len();
-        let removed = (old.clean() - moved).saturating_sub(new.model.capacity() - pinned.len());
-        let removed = &dropped[overwritten..overwritten + removed];
-        for (slot, key) in clean() {
-            if !removed.contains(&slot) {
+        for slot in 0..self.capacity() {
+            if let Some((key, _)) = self.state.clean_entry(slot)
+                && !removed.for_room.contains(&slot)
+            {
                 list[slot] = new.model.peek_clean(key).map_or(NONE, narrow);
             }
         }
@@ -222,7 +299,9 @@ impl Table {
         let count = stopped(|| cache.reclaim_batch(limit)).ok_or(STOP)?;
         let slots: Vec<u16> = dropped.borrow().iter().map(|slot| narrow(*slot)).collect();
         assert_eq!(count, slots.len(), "pages dropped and pages counted");
-        self.0 = cache.state.with(|control| control.table.take()).expect("a table after reclaim").model;
+        let before =
+            std::mem::replace(&mut self.state, cache.state.with(|control| control.table.take()).expect("a table after reclaim").model);
+        self.keep_lengths(&before);
         Ok(slots)
     }
 
@@ -240,21 +319,40 @@ impl Table {
                 page
             })
         };
-        let pages = self.picture().slots.iter().enumerate().map(page).collect();
-        let table = CacheState { model: self.0.copy(), pages, metadata_pages: 0 };
+        let pages = self.state.picture().slots.iter().enumerate().map(page).collect();
+        let table = CacheState { model: self.state.copy(), pages, metadata_pages: 0 };
         FileDataCache::from_parts(Some(table), budget)
     }
 
     /// An original call. Where it stops, the table is as it was before.
     fn run<A>(&mut self, call: impl FnOnce(&mut State) -> Result<A, state::Error>) -> Result<A, u8> {
-        let before = self.0.copy();
-        match stopped(|| call(&mut self.0)) {
-            Some(answer) => answer.map_err(refusal),
+        let before = self.state.copy();
+        match stopped(|| call(&mut self.state)) {
+            Some(answer) => {
+                self.keep_lengths(&before);
+                answer.map_err(refusal)
+            }
             None => {
-                self.0 = before;
+                self.state = before;
                 Err(STOP)
             }
         }
+    }
+}
+
+/// The old slots whose keys a resize removed from the old table. A key that simply moved to the new table is not removed from the old one.
+#[derive(Default)]
+struct Removed {
+    /// Those with the key of a pinned slot, which leave the old table first.
+    moved: Vec<usize>,
+    for_room: Vec<usize>,
+    /// Those that a chain of the new table refused.
+    refused: Vec<usize>,
+}
+
+impl Removed {
+    fn all(&self) -> impl Iterator<Item = usize> {
+        [&self.moved, &self.for_room, &self.refused].into_iter().flatten().copied()
     }
 }
 

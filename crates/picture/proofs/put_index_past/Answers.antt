@@ -6,4 +6,6 @@ use Rattle.picture.proofs.put_index_past.Goals as goal
 
 pub returns : goal.returns
 unfolding index_past
-returns c = numbers_joined _ _ (numbers_joined _ _ c.put_list_past.ensures c.put_list_past-2.ensures) c.put_list_past-3.ensures
+returns c =
+    let buckets = numbers_joined _ _ c.put_list_past.ensures c.put_list_past-2.ensures in
+    numbers_joined _ _ (numbers_joined _ _ buckets c.put_list_past-3.ensures) c.put_list_past-4.ensures

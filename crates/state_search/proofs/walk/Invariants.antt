@@ -9,5 +9,5 @@ use Rattle.state.specs.declared.Slot.{Slot}
 use Rattle.state_search.specs.Sought.{Follows, walk_from, walk_key}
 use Rattle.state_search.proofs.walk.Given as goal
 
-abbrev pub invariant-loop : goal.invariant-loop
-invariant-loop g l = (rule : Slot → Try Bool) → Follows (goal.F-post g l.here) rule → walk_from rule (CHAIN - l.counter) l.t l.slot ≡ walk_key rule l.t l.fn.key
+abbrev pub invariant-loop-walked : goal.invariant-loop-walked
+invariant-loop-walked g l = (rule : Slot → Try Bool) → Follows (goal.F-post g l.here) rule → walk_from rule (CHAIN - l.walked) l.t l.fn.key l.slot ≡ walk_key rule l.t l.fn.key

@@ -1,7 +1,10 @@
 // SPDX-License-Identifier: Apache-2.0
 //! The private fields of the original `State` and `LoadToken`, read and made.
 
+use core::cell::Cell;
+
 use super::index::Index;
+use super::index::invariant_failure;
 use super::index::raw::{narrow_all, widen_all};
 use super::{CacheKey, EvictionHeap, LoadToken, Slot, State};
 use crate::picture::{CLEAN, LOADING, Picture, Record, VACANT};
@@ -63,6 +66,27 @@ impl State {
         self.next_access_sequence
     }
 
+    pub(in crate::cache) fn key_of(&self, slot: usize) -> Option<CacheKey> {
+        self.slots[slot].key()
+    }
+
+    /// How many slots the original's search of the key walks where it comes to the end of its chain; None where it finds the key. Access and lookup search
+    /// as the original's private `find` does, `peek_clean` (`peek`) passes all slots that are not clean.
+    pub(in crate::cache) fn walked(&self, key: CacheKey, peek: bool) -> Option<usize> {
+        let walked = Cell::new(0);
+        let found = self.index.find(key, |slot| {
+            walked.set(walked.get() + 1);
+            match self.slots[slot] {
+                Slot::Clean { key: held, .. } => held == key,
+                _ if peek => false,
+                Slot::Loading { key: held, .. } => held == key,
+                Slot::Vacant => invariant_failure(),
+            }
+        });
+        found.is_none().then(|| walked.get())
+    }
+
+    /// Without the kept lengths, which stand beside this table.
     pub(in crate::cache) fn picture(&self) -> Picture {
         let [heads, next, free] = self.index.raw().map(|numbers| narrow_all(numbers));
         let entries = self.eviction.entries();
@@ -76,6 +100,7 @@ impl State {
             slots: self.slots.iter().map(record).collect(),
             buckets: heads.len() as u64,
             heads,
+            lengths: Default::default(),
             next,
             free_len: free.len() as u64,
             free,
