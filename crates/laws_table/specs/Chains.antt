@@ -1,5 +1,6 @@
 -- SPDX-License-Identifier: Apache-2.0
--- The invariant of the index's chains, as `Index::assert_valid` tests it, with each chain seen as a list. `c` is the capacity.
+-- The invariant of the index's chains, as `Index::assert_valid` tests it, and of the lengths kept for them, with each chain seen as a list. `c` is the
+-- capacity.
 use Rattle.std.specs.Prelude.{ℕ, ◌<◌, ◌≤◌, ◌≡◌, List, [], ◌∷◌, length, get_or}
 use Rattle.std.proofs.Math.Option.{Option, none, some}
 use Rattle.basics.specs.Numbers.{NONE}
@@ -12,7 +13,7 @@ abbrev pub Linked : List ℕ → ℕ → ℕ → List ℕ → Type 0
 Linked next c s [] = s ≡ NONE
 Linked next c s (x ∷ xs) = (s ≡ x) × (x < c) × Linked next c (get_or next x 0) xs
 
--- the chains hold exactly the slots that `g` gives a bucket, each once, in the chain of its bucket
+-- the chains hold exactly the slots that `g` gives a bucket, each once, in the chain of its bucket, and the length kept for a bucket is its chain's
 pub record Chains (c : ℕ) (ix : Index) (g : ℕ → Option ℕ) : Type 0 where
   pub size_heads : length ix.heads ≡ 512
   pub size_lengths : length ix.lengths ≡ 512

@@ -53,7 +53,7 @@ DiffersIs10 =
 abbrev pub met_with_10 : {A : Type 0} → State → After A
 met_with_10 t = record { table = t; answer = refuse STOP }
 
--- so do lookup and access, be loading allowed or not, the chain full or a number spent
+-- so do lookup and access (with as many pin bytes as slots: 3 stands before), be loading allowed or not, the chain full or a number spent
 abbrev pub CallsMetWith10 : Type 0
 CallsMetWith10 =
     (t : State) (key : CacheKey) → Miscounted t key (has_key t key)
