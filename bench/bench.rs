@@ -2,11 +2,13 @@
 //! Times run sheets through the original Rust in place and through our calls, and a plain copy of a table. bench/run builds and runs it; with
 //! `--cfg counting` it counts the bytes that memcpy and memmove move instead, and times nothing.
 
-use original::in_place;
+use original::in_place::{self, Visits};
 use std::hint::black_box;
 
 const TABLE: usize = 19_560;
 const CAPACITIES: [usize; 2] = [16, 256];
+/// What the name of a sheet of batches ends with.
+const TOGETHER: &str = " in one peek";
 
 unsafe extern "C" {
     /// crates/bench: a Rattle slice is a pointer and a length.
@@ -19,12 +21,14 @@ fn ours(sheet: &[u64]) -> u64 {
 
 /// A run sheet whose counted calls are looked at, and the same sheet without them: what the counted calls cost is the difference.
 struct Sheet {
-    name: &'static str,
+    name: String,
     capacity: usize,
     maintained: bool,
     whole: Vec<u64>,
     without: Vec<u64>,
     counted: usize,
+    /// What its batches visit.
+    visits: Vec<Visits>,
 }
 
 /// What makes the record of a call from the page of its key.
@@ -68,9 +72,23 @@ fn reclaim(limit: usize) -> [u64; 3] {
     record(9, 0, limit, 0)
 }
 
+/// 64 keys in one peek, and a single peek: codes that crates/bench has besides.
+fn batch(page: u64, stride: u64) -> [u64; 3] {
+    record(11, 0, stride as usize, page)
+}
+
+fn peek(page: u64) -> [u64; 3] {
+    record(12, 0, 0, page)
+}
+
+fn next(random: &mut u64) -> u64 {
+    *random = random.wrapping_mul(6364136223846793005).wrapping_add(1442695040888963407);
+    *random >> 33
+}
+
 impl Sheet {
-    fn new(name: &'static str, capacity: usize) -> Self {
-        Self { name, capacity, maintained: false, whole: Vec::new(), without: Vec::new(), counted: 0 }
+    fn new(name: impl Into<String>, capacity: usize) -> Self {
+        Self { name: name.into(), capacity, maintained: false, whole: Vec::new(), without: Vec::new(), counted: 0, visits: Vec::new() }
     }
 
     fn take(&mut self, record: [u64; 3]) {
@@ -85,8 +103,12 @@ impl Sheet {
 
     /// A new table with every slot clean: the pages from 1 to the capacity.
     fn full(&mut self) {
+        self.full_of(self.pages());
+    }
+
+    fn full_of(&mut self, pages: impl Iterator<Item = u64>) {
         self.take(new(self.capacity));
-        for page in self.pages() {
+        for page in pages {
             self.take(access(page));
             self.take(publish(page));
         }
@@ -107,8 +129,7 @@ fn sheets(capacity: usize, calls: usize) -> Vec<Sheet> {
         sheet.full();
         let mut random = 1_u64;
         for _ in 0..calls {
-            random = random.wrapping_mul(6364136223846793005).wrapping_add(1442695040888963407);
-            sheet.count(call(1 + (random >> 33) % size));
+            sheet.count(call(1 + next(&mut random) % size));
         }
         all.push(sheet);
     }
@@ -172,7 +193,45 @@ fn sheets(capacity: usize, calls: usize) -> Vec<Sheet> {
         }
         all.push(sheet);
     }
+    // Neighbouring pages, each of a bucket of its own while the table has 64 buckets. All are in the larger table, and 16 in the smaller.
+    let reel = Keys { name: "64 keys of a reel", stride: 1, starts: size.max(64) - 63 };
+    all.extend(reel.sheets(capacity, calls, 1..=size));
+    // Pages of one bucket, all in the table.
+    if 64 <= size {
+        let chain = Keys { name: "64 keys of one chain", stride: 512, starts: 1 };
+        all.extend(chain.sheets(capacity, calls, (1..=64).map(|n| 512 * n).chain(1..=size - 64)));
+    }
     all
+}
+
+/// Keys that are asked for 64 at a time, their pages so many apart. The first is at one of so many places.
+struct Keys {
+    name: &'static str,
+    stride: u64,
+    starts: u64,
+}
+
+impl Keys {
+    /// In one peek, and one by one, on a table full of these pages. The 64 single peeks count as one call.
+    fn sheets(&self, capacity: usize, calls: usize, full_of: impl Iterator<Item = u64> + Clone) -> [Sheet; 2] {
+        let [mut together, mut single] = [TOGETHER, " in 64 single peeks"].map(|how| {
+            let mut sheet = Sheet::new(format!("{}{how}", self.name), capacity);
+            sheet.full_of(full_of.clone());
+            sheet
+        });
+        let mut random = 1_u64;
+        let mut first = || self.stride * (1 + next(&mut random) % self.starts);
+        for _ in 0..calls / 16 {
+            together.count(batch(first(), self.stride));
+        }
+        together.visits = in_place::visits(&together.whole);
+        for _ in 0..calls / 64 {
+            let first = first();
+            (0..64).for_each(|place| single.count(peek(first + self.stride * place)));
+        }
+        single.counted /= 64;
+        [together, single]
+    }
 }
 
 /// One plain copy of as many bytes as a table has.
@@ -183,7 +242,7 @@ fn copy(from: &[u64; TABLE / 8], to: &mut [u64; TABLE / 8]) {
 
 fn same_answers(sheet: &Sheet) {
     for records in [&sheet.whole, &sheet.without] {
-        assert_eq!(ours(records), in_place::run(records, sheet.maintained), "{}: the two sides answer alike", sheet.name);
+        assert_eq!(ours(records), in_place::run(records, sheet.maintained, &sheet.visits), "{}: the two sides answer alike", sheet.name);
     }
 }
 
@@ -212,7 +271,7 @@ mod timing {
         let (mut a, mut b) = ([1_u64; TABLE / 8], [2_u64; TABLE / 8]);
         for turn in 0..=REPEATS {
             let port = seconds(|| ours(&sheet.whole)) - seconds(|| ours(&sheet.without));
-            let original = |records: &[u64]| seconds(|| in_place::run(records, sheet.maintained));
+            let original = |records: &[u64]| seconds(|| in_place::run(records, sheet.maintained, &sheet.visits));
             let rust = original(&sheet.whole) - original(&sheet.without);
             let copies = seconds(|| {
                 for _ in 0..COPIES / 2 {
@@ -238,6 +297,7 @@ mod timing {
             "| call | capacity | ours / Rust | ours / plain copy | tables copied | bytes copied | slow copies | ours, ns | Rust, ns | plain copy, ns |"
         );
         println!("|---|---:|---:|---:|---:|---:|---:|---:|---:|---:|");
+        let mut visits = Vec::new();
         for capacity in CAPACITIES {
             for sheet in sheets(capacity, 20_480) {
                 same_answers(&sheet);
@@ -256,7 +316,16 @@ mod timing {
                     rust,
                     copy
                 );
+                if !sheet.visits.is_empty() {
+                    visits.push(sheet);
+                }
             }
+        }
+        println!("\n| keys | capacity | slots visited in one peek | in 64 single peeks |\n|---|---:|---:|---:|");
+        for sheet in visits {
+            let keys = sheet.name.trim_end_matches(TOGETHER);
+            let mean = |count: fn(&Visits) -> u64| sheet.visits.iter().map(count).sum::<u64>() as f64 / sheet.visits.len() as f64;
+            println!("| {keys} | {} | {:.0} | {:.0} |", sheet.capacity, mean(|visits| visits.batch), mean(|visits| visits.single));
         }
     }
 }

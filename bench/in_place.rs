@@ -5,8 +5,10 @@
 use super::super::state::{self, LoadToken, State};
 use super::super::{Budget, CacheState, FileDataCache, Maintenance, OwnedPage, memory};
 use super::{CacheKey, Token};
+use crate::picture::{CLEAN, LOADING, NONE, Picture};
 use crate::sheet::{RECORD, Record};
 use hyper::mm::FallibleArc;
+use std::collections::HashMap;
 use std::hint::black_box;
 use std::io::Write;
 
@@ -82,8 +84,60 @@ impl Place for Cache {
     }
 }
 
-pub fn run(sheet: &[u64], maintained: bool) -> u64 {
-    if maintained { run_in::<Cache>(sheet) } else { run_in::<State>(sheet) }
+/// The keys of a batch, code 11: the record's and the 63 behind it, so many pages apart.
+fn reel(key: CacheKey, stride: u64) -> impl Iterator<Item = CacheKey> {
+    (0..64).map(move |place| CacheKey { index: key.index.wrapping_add(stride.wrapping_mul(place)), ..key })
+}
+
+/// How many slots are visited along the key's chain, until one of these kinds holds the key or the chain ends.
+fn walk(table: &Picture, key: CacheKey, kinds: &[u8]) -> u64 {
+    let mut visited = 0;
+    let mut slot = table.heads[key.bucket_of(table.buckets) as usize];
+    while slot != NONE {
+        visited += 1;
+        let held = &table.slots[usize::from(slot)];
+        if kinds.contains(&held.kind) && held.key == key {
+            break;
+        }
+        slot = table.next[usize::from(slot)];
+    }
+    visited
+}
+
+/// The slots that a batch visits, which walks each chain as far as the farthest of its keys, and those that single peeks of the same keys visit.
+#[derive(Clone, Copy)]
+pub struct Visits {
+    pub batch: u64,
+    pub single: u64,
+}
+
+impl Visits {
+    fn of(table: &Picture, key: CacheKey, stride: u64) -> Self {
+        let mut chains = HashMap::new();
+        for key in reel(key, stride) {
+            let farthest = chains.entry(key.bucket_of(table.buckets)).or_insert(0);
+            *farthest = walk(table, key, &[LOADING, CLEAN]).max(*farthest);
+        }
+        Self { batch: chains.into_values().sum(), single: reel(key, stride).map(|key| walk(table, key, &[CLEAN])).sum() }
+    }
+}
+
+/// Those of each batch of a sheet without resize and reclaim, told by walks along the original's chains.
+pub fn visits(sheet: &[u64]) -> Vec<Visits> {
+    let mut all = Vec::new();
+    run_in::<State>(sheet, |table, key, stride| {
+        let visits = Visits::of(&table.picture(), key, stride);
+        all.push(visits);
+        visits.batch
+    });
+    all
+}
+
+/// `visits`: those of the sheet's batches. The original's calls do not count the slots that they visit, and here nothing is to slow them down.
+pub fn run(sheet: &[u64], maintained: bool, visits: &[Visits]) -> u64 {
+    let mut visits = visits.iter();
+    let visited = |_: &State, _, _| visits.next().expect("the visits of a batch").batch;
+    if maintained { run_in::<Cache>(sheet, visited) } else { run_in::<State>(sheet, visited) }
 }
 
 /// The number of an access; a reservation puts its token in the named place.
@@ -100,7 +154,7 @@ fn accessed(answer: Result<state::Access, state::Error>, place: &mut LoadToken) 
     }
 }
 
-fn run_in<P: Place>(sheet: &[u64]) -> u64 {
+fn run_in<P: Place>(sheet: &[u64], mut visited: impl FnMut(&State, CacheKey, u64) -> u64) -> u64 {
     let mut place = P::new(1);
     let mut tokens: [LoadToken; 16] = [Token::default().into(); 16];
     let pins = [0_u8; 256];
@@ -114,7 +168,7 @@ fn run_in<P: Place>(sheet: &[u64]) -> u64 {
         let key = CacheKey { file: record[1], kind: (head >> 16) as u8, index: record[2] };
         let token = (head >> 24) as usize % 16;
         let number = (head >> 32) as usize;
-        add(match head as u8 {
+        let answer = match head as u8 {
             1 => {
                 place = P::new(number);
                 6000
@@ -134,8 +188,20 @@ fn run_in<P: Place>(sheet: &[u64]) -> u64 {
                 Err(_) => 0,
             },
             8 => place.resize(number),
+            11 => {
+                let stride = number as u64;
+                add(6000);
+                add(place.table(|table| visited(table, key, stride)));
+                for key in reel(key, stride) {
+                    let found = place.table(|table| table.peek_clean(key));
+                    add(found.map_or(u64::from(NONE), |slot| slot as u64));
+                }
+                continue;
+            }
+            12 => place.table(|table| table.peek_clean(key)).map_or(7000, |slot| 1000 + slot as u64),
             _ => place.reclaim(number),
-        });
+        };
+        add(answer);
     }
     let end = place.table(|table| table.picture());
     let [hits, misses, evictions, ..] = end.counters;

@@ -28,7 +28,7 @@ pub struct Differences(BTreeMap<String, u64>);
 
 impl Differences {
     /// The original's answer is asked of a copy of the table.
-    fn note<A: Debug>(&mut self, rule: &str, original: Result<A, u8>) {
+    pub fn note<A: Debug>(&mut self, rule: &str, original: Result<A, u8>) {
         let original = match original {
             Err(STOP) => "stops".to_string(),
             Err(number) => format!("refuses by {number}"),

@@ -1,16 +1,19 @@
 // SPDX-License-Identifier: Apache-2.0
-//! The original page cache table, built unchanged, and what runs it: document 01's calls, run sheets and made-up tables, and document 02's gate.
+//! The original page cache table, built unchanged, and what runs it: document 01's calls, run sheets and made-up tables, and document 02's gate and batches.
 //! `cache` is the original module; oracle/build puts its files beside our stand-ins.
 
 extern crate alloc;
 
 #[allow(unused, dead_code, unfulfilled_lint_expectations)]
 mod cache;
+pub mod batch;
 pub mod calls;
 pub mod case;
 pub mod gate_calls;
 pub mod gate_case;
 pub mod make_aimed;
+pub mod make_batch;
+pub mod make_batch_aimed;
 pub mod make_cases;
 pub mod make_gate;
 pub mod make_gate_aimed;

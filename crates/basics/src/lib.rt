@@ -22,7 +22,8 @@ pub const MAX_COUNT: usize = usize::MAX;
 // The most slots of a table.
 pub const MAX_CAPACITY: usize = 256;
 
-// Why a call is refused. `number` gives each its number: 1 to 5 from the input, 6 to 10 from the state, 11 and 12 from the gate.
+// Why a call is refused. `number` gives each its number: 1 to 5 from the input, 6 to 10 from the state, 11 and 12 from the gate,
+// 13 from the keys of a batch.
 #[derive(Clone, Copy, Debug, PartialEq, Eq)]
 pub enum Refusal {
     InvalidCapacity,
@@ -37,6 +38,7 @@ pub enum Refusal {
     Stop,
     Full,
     Empty,
+    Keys,
 }
 
 impl From<Refusal> for u8 {
@@ -56,6 +58,7 @@ impl From<Refusal> for u8 {
             Refusal::Stop => 10,
             Refusal::Full => 11,
             Refusal::Empty => 12,
+            Refusal::Keys => 13,
         }
     }
 }

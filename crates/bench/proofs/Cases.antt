@@ -4,10 +4,13 @@ use Rattle.std.proofs.Common.{◌≡◌, ℕ, zero, suc, ◌+◌, ◌/◌, ◌<�
 use Rattle.std.proofs.Math.ListN.{get_or-append}
 use Rattle.std.proofs.Math.Nat.{add-div_left, div-eq_of_lt}
 use Rattle.std.proofs.Math.Numerals.{suc-eq-add-one}
+use Rattle.std.specs.List.{fold}
 use Rattle.std.proofs.lemmas.List.{get_or-append-add}
 use mathlib.Core.Option.{Option}
+use Rattle.basics.specs.Try.{Try}
 use Rattle.basics.specs.Numbers.{NONE}
 use Rattle.basics.specs.Answers.{Fine}
+use Rattle.key.specs.declared.CacheKey.{CacheKey}
 use Rattle.state.specs.declared.State.{State}
 use Rattle.state.specs.declared.LoadToken.{LoadToken}
 use Rattle.state.specs.Answers.{Given, After}
@@ -15,6 +18,7 @@ use Rattle.state.specs.Fresh.{new}
 use Rattle.state.specs.Access.{access}
 use Rattle.state.specs.Tokens.{publish, abort}
 use Rattle.state.specs.Lookup.{lookup}
+use Rattle.state.specs.Reads.{peek_clean}
 use Rattle.maintenance_reclaim.specs.Answers.{Reclaiming}
 use Rattle.maintenance_reclaim.specs.Reclaim.{reclaim}
 use Rattle.maintenance_resize.specs.Answers.{Resizing}
@@ -22,9 +26,11 @@ use Rattle.maintenance_resize.specs.Resize.{resize}
 use Rattle.gate.specs.declared.Gate.{Gate}
 use Rattle.gate.specs.Gate.{at_first}
 use Rattle.passage.specs.Access.{access_through}
+use Rattle.batch.specs.Batch.{Peeking, peek_batch}
 use Rattle.bench.specs.declared.Sum.{Sum}
+use Rattle.bench.specs.Reel.{reel}
 use Rattle.bench.specs.Sum.{no_sum, plus, word_of, access_number, done_number, found_number, size_number}
-use Rattle.bench.specs.Run.{Running, running, no_token, start, lent_pins, lent_list, placed, after_done, after_access, after_lookup, after_resize, after_reclaim, run_code, code_of, place_of, number_of, key_of, run_record, run_from, total}
+use Rattle.bench.specs.Run.{Running, running, no_token, start, lent_pins, lent_list, placed, after_done, after_access, after_lookup, after_resize, after_reclaim, after_batch, after_peek, run_code, code_of, place_of, number_of, key_of, run_record, run_from, total}
 
 -- a record in front of what is left, taken
 run_shift : (n : ℕ) (chunk later : List ℕ) (at : ℕ) (x : Running) → run_from n (chunk ++ later) (length chunk + at) x ≡ run_from n later at x
@@ -97,6 +103,17 @@ module _ (t : State) (tokens : List LoadToken) (sum : Sum) (head file index : �
   unfolding run_record run_code after_lookup
   lookup_goes m more code e = rw (more, m, code, ← e)
 
+  pub batch_goes : {a : Peeking} {r s u : Sum} {n : ℕ} {keys : List CacheKey} → n ≡ done_number a.answer → r ≡ plus sum n → s ≡ plus r a.visited
+      → u ≡ fold plus s a.list → keys ≡ reel 64 (key_of head file index) (number_of head) → code_of head ≡ 11
+      → a ≡ peek_batch t keys 64 (replicate 64 NONE) → Goes t tokens u
+  unfolding run_record run_code after_batch
+  batch_goes m first second more on code e = rw (more, second, first, m, code, ← on, ← e)
+
+  pub peek_goes : {a : Try (Option ℕ)} {s : Sum} {n : ℕ} → n ≡ found_number a → s ≡ plus sum n → code_of head ≡ 12
+      → a ≡ peek_clean t (key_of head file index) → Goes t tokens s
+  unfolding run_record run_code after_peek
+  peek_goes m more code e = rw (more, m, code, ← e)
+
   -- with pin bytes lent
   module _ {k : ℕ} (lent : k ≡ min t.capacity 256) where
     module _ {a : After Given} {s : Sum} {n : ℕ} {later : List LoadToken} (m : n ≡ access_number a.answer) (more : s ≡ plus sum n) (p : later ≡ placed tokens (place_of head) a.answer) where
@@ -114,7 +131,7 @@ module _ (t : State) (tokens : List LoadToken) (sum : Sum) (head file index : �
     resize_goes m more code e = rw (more, m, code, ← lent, ← e)
 
     pub reclaim_goes : {a : Reclaiming} {s : Sum} {n : ℕ} → n ≡ word_of 10000 a.count → s ≡ plus sum n
-        → Not 1 × Not 2 × Not 3 × Not 4 × Not 5 × Not 8 × Not 10 → a ≡ reclaim t (number_of head) (take k (replicate 256 0)) → Goes a.table tokens s
+        → Not 1 × Not 2 × Not 3 × Not 4 × Not 5 × Not 8 × Not 10 × Not 11 × Not 12 → a ≡ reclaim t (number_of head) (take k (replicate 256 0)) → Goes a.table tokens s
     unfolding run_record run_code after_reclaim lent_pins
-    reclaim_goes m more (n1, n2, n3, n4, n5, n8, n10) e =
-        rw (more, m, ne_eqb _ _ n1, ne_eqb _ _ n2, ne_eqb _ _ n3, ne_eqb _ _ n4, ne_eqb _ _ n5, ne_eqb _ _ n8, ne_eqb _ _ n10, ← lent, ← e)
+    reclaim_goes m more (n1, n2, n3, n4, n5, n8, n10, n11, n12) e =
+        rw (more, m, ne_eqb _ _ n1, ne_eqb _ _ n2, ne_eqb _ _ n3, ne_eqb _ _ n4, ne_eqb _ _ n5, ne_eqb _ _ n8, ne_eqb _ _ n10, ne_eqb _ _ n11, ne_eqb _ _ n12, ← lent, ← e)

@@ -2,6 +2,7 @@
 -- A run sheet through the rules of the calls that are timed, and the checksum of all that they answer. Loads are always allowed, no slot is
 -- pinned, and no record is refused as bad.
 use Rattle.std.specs.Prelude.{ℕ, zero, suc, ◌+◌, ◌/◌, ◌%◌, min, true, List, length, take, replicate, ◌==◌, slice_index, slice_index_or, slice_set, if◌then◌else◌}
+use Rattle.std.specs.List.{fold}
 use Rattle.std.proofs.Math.Option.{Option}
 use Rattle.basics.specs.Try.{Try, ok, refuse}
 use Rattle.basics.specs.Numbers.{NONE}
@@ -15,13 +16,16 @@ use Rattle.state.specs.Fresh.{new}
 use Rattle.state.specs.Access.{access}
 use Rattle.state.specs.Tokens.{publish, abort}
 use Rattle.state.specs.Lookup.{lookup}
+use Rattle.state.specs.Reads.{peek_clean}
 use Rattle.maintenance_reclaim.specs.Answers.{Reclaiming}
 use Rattle.maintenance_reclaim.specs.Reclaim.{reclaim}
 use Rattle.maintenance_resize.specs.Answers.{Resizing}
 use Rattle.maintenance_resize.specs.Resize.{resize}
 use Rattle.gate.specs.Gate.{at_first}
 use Rattle.passage.specs.Access.{access_through}
+use Rattle.batch.specs.Batch.{PEEK_BATCH, Peeking, peek_batch}
 use Rattle.bench.specs.declared.Sum.{Sum}
+use Rattle.bench.specs.Reel.{reel}
 use Rattle.bench.specs.Sum.{no_sum, plus, word_of, access_number, done_number, found_number, size_number}
 
 -- what stands between two records: the table, the token places, and the checksum so far
@@ -83,8 +87,16 @@ after_resize x a = added x a.table (size_number a.answer)
 unfoldable pub after_reclaim : Running → Reclaiming → Running
 after_reclaim x a = added x a.table (word_of 10000 a.count)
 
--- the calls by their codes; 10, which no run sheet has, is access through a gate as at first; reclaim is 9, and every code that is not timed
--- counts as one
+-- one peek for 64 keys: its answer, the slots visited, and each number of the list; table and tokens stay
+unfoldable pub after_batch : Running → Peeking → Running
+after_batch x p = running x.table x.tokens (fold plus (plus (plus x.sum (done_number p.answer)) p.visited) p.list)
+
+-- one peek for one key
+unfoldable pub after_peek : Running → Try (Option ℕ) → Running
+after_peek x found = added x x.table (found_number found)
+
+-- the calls by their codes. No run sheet has 10 to 12: access through a gate as at first, one peek for a reel's keys, and one for one key. Reclaim
+-- is 9, and every code that is not timed counts as one.
 unfoldable pub run_code : Running → ℕ → ℕ → ℕ → CacheKey → Running
 run_code x code place number key =
     if code == 1 then after_done x (new number) else
@@ -94,6 +106,8 @@ run_code x code place number key =
     if code == 5 then after_lookup x (lookup x.table key) else
     if code == 8 then after_resize x (resize x.table number (lent_pins x.table) (lent_list x.table)) else
     if code == 10 then after_access x place (access_through x.table at_first key true (lent_pins x.table)) else
+    if code == 11 then after_batch x (peek_batch x.table (reel PEEK_BATCH key number) PEEK_BATCH (replicate PEEK_BATCH NONE)) else
+    if code == 12 then after_peek x (peek_clean x.table key) else
     after_reclaim x (reclaim x.table number (lent_pins x.table))
 
 -- a record: three numbers of 8 bytes. The first holds code, kind, token place and number, the others are file and index.

@@ -1,17 +1,21 @@
 // SPDX-License-Identifier: Apache-2.0
 // What bench/ times of the port: a run sheet through the calls, one after the other on one table in a local. Only the calls that are timed
-// are taken, and no line is written. One code is added to a run sheet's: 10 is access through a gate, which stays as at first.
+// are taken, and no line is written. Three codes are added to a run sheet's: 10 is access through a gate, which stays as at first; 11 is one peek for
+// 64 keys, that of the record and those behind it, as many pages apart as its number says; 12 is one peek for the record's key.
 // `as`: there is no `From` between u64 and usize, and `try_from` could fail.
 #![tactic(auto)]
 
 ghost use Rattle.std.specs.Prelude.{◌≡◌, ◌<◌};
+ghost use Rattle.std.specs.List.{fold};
 ghost use Rattle.basics.specs.Answers.{number, done_answer, found_answer};
 ghost use Rattle.state.specs.Answers.{access_answer};
 ghost use Rattle.maintenance_resize.specs.Answers.{size_answer};
 ghost use Rattle.bench.specs.Sum.{plus, word_of, access_number, done_number, found_number, size_number};
+ghost use Rattle.bench.specs.Reel.{reel};
 ghost use Rattle.bench.specs.Run.{no_token, placed, checksum};
 
 use basics::Refusal;
+use batch::PEEK_BATCH;
 use gate::Gate;
 use key::CacheKey;
 use maintenance_resize::Maintenance;
@@ -34,6 +38,17 @@ impl Sum {
             first,
             second: self.second.wrapping_add(first),
         }
+    }
+
+    // Each number of a list in turn.
+    fn plus_all(self, numbers: &[u16]) -> Sum
+        ensures { result ≡ fold plus self numbers.now }
+    {
+        let mut sum = self;
+        for number in numbers {
+            sum = sum.plus(u64::from(*number));
+        }
+        sum
     }
 }
 
@@ -115,6 +130,16 @@ fn hold(tokens: &mut [LoadToken; 16], place: usize, answer: Result<Access, Refus
     }
 }
 
+// The 64 keys from this one on, so many pages apart, in the lent array: one that is handed back would be copied.
+fn reel(mut key: CacheKey, stride: u64, keys: &mut [CacheKey; PEEK_BATCH])
+    ensures { keys.new ≡ reel 64 key stride }
+{
+    for place in 0..PEEK_BATCH {
+        keys[place] = key;
+        key.index = key.index.wrapping_add(stride);
+    }
+}
+
 // The sheet's records, each read as three numbers of 8 bytes, low byte first. Answers with a checksum of all that the calls answered and of
 // the counts at the end, which bench/ compares with the Rust's.
 #[unsafe(no_mangle)]
@@ -140,7 +165,7 @@ pub extern "C" fn tallboycrow_bench(sheet: &[u64]) -> u64
             index,
         };
         let count = t.capacity.min(basics::MAX_CAPACITY);
-        // The codes are document 01's numbers and 10. A byte may be any: the last arm takes the rest.
+        // The codes are document 01's numbers, and 10 to 12. A byte may be any: the last arm takes the rest.
         match head % 256 {
             1 => {
                 let made = State::try_new(number);
@@ -184,6 +209,19 @@ pub extern "C" fn tallboycrow_bench(sheet: &[u64]) -> u64
                 t = accessed.state;
                 hold(&mut tokens, place, accessed.answer);
                 sum = sum.plus(of_access(accessed.answer));
+            }
+            11 => {
+                let mut keys = [key; PEEK_BATCH];
+                reel(key, number as u64, &mut keys);
+                let mut list = [basics::NONE; PEEK_BATCH];
+                let peeked = batch::peek_batch(t, keys, PEEK_BATCH, &mut list);
+                sum = sum
+                    .plus(of_done(peeked.answer))
+                    .plus(peeked.visited as u64)
+                    .plus_all(&list);
+            }
+            12 => {
+                sum = sum.plus(of_found(state_search::peek_clean(t, key)));
             }
             _ => {
                 let batch = maintenance_reclaim::reclaim(t, number, &pins[..count]);

@@ -55,8 +55,8 @@ const FAR: usize = 1048576;
 // More is read before fewer bytes than this are left: no case is longer.
 const LONGEST: usize = 98304;
 
-// ---- Numbers, low byte first. Past the end there are zeros. The bytes and a place in them stay two: `byte_at`, `low_8`, `read_call` and `read_table` are
-// public over both.
+// ---- Numbers, low byte first. Past the end there are zeros. The bytes and a place in them stay two: `byte_at`, `low_8`, `read_key`, `read_call` and
+// `read_table` are public over both.
 
 // A place some bytes on.
 pub fn over(at: usize, bytes: usize) -> usize
@@ -97,7 +97,7 @@ pub fn low_8(bytes: &[u8], at: usize) -> u64
     ])
 }
 
-fn read_key(bytes: &[u8], at: usize) -> CacheKey
+pub fn read_key(bytes: &[u8], at: usize) -> CacheKey
     ensures { result ≡ key_at bytes.now at }
 {
     CacheKey {
@@ -439,7 +439,7 @@ fn run_read(page: &mut Page, t: State, call: Call)
     }
 }
 
-// The calls that no gate stands before: all but access and resize.
+// The calls of these cases that no gate stands before: all but access and resize.
 pub fn run(page: &mut Page, t: State, call: Call, pins: &[u8]) -> State
     ensures { Within page.old page.new }
 {

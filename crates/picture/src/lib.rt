@@ -1,5 +1,5 @@
 // SPDX-License-Identifier: Apache-2.0
-// Tables in plain numbers, as oracle/README.md has them: what the programs `trace`, `made_up` and `gate_trace` share.
+// Tables in plain numbers, as oracle/README.md has them: what the programs `trace`, `made_up`, `gate_trace` and `batch_trace` share.
 #![tactic(auto)]
 
 ghost use Rattle.std.specs.Prelude.{◌≡◌, ℕ, false, not, List, take};

@@ -1,12 +1,15 @@
 // SPDX-License-Identifier: Apache-2.0
-//! Writes sheets, made-up tables and gate cases to standard output. The README says what each form makes.
+//! Writes sheets, made-up tables, gate cases and batch cases to standard output. The README says what each form makes.
 
 use std::io::{BufWriter, Write, stdin, stdout};
 use std::process::ExitCode;
 
+use original::batch::BatchCase;
 use original::case::Case;
 use original::gate_case::GateCase;
 use original::make_aimed::aimed;
+use original::make_batch::batches;
+use original::make_batch_aimed::batch_aimed;
 use original::make_cases::cases;
 use original::make_gate::{every_list, lists};
 use original::make_gate_aimed::gate_aimed;
@@ -15,8 +18,8 @@ use original::sheet::Record;
 use original::written;
 
 const USAGE: &str = "usage: rust_gen SEED RECORDS | --exhaustive CAPACITY LENGTH | --deep CAPACITY LENGTH | --ends CAPACITY |
-    --made-up SEED COUNT | --aimed | --aimed-words | --gate SEED COUNT | --gate-exhaustive CAPACITY LENGTH | --gate-aimed | --gate-aimed-words | --records |
-    --cases | --gate-cases";
+    --made-up SEED COUNT | --aimed | --aimed-words | --gate SEED COUNT | --gate-exhaustive CAPACITY LENGTH | --gate-aimed | --gate-aimed-words |
+    --batch SEED COUNT | --batch-aimed | --batch-aimed-words | --records | --cases | --gate-cases | --batch-cases";
 
 /// The lines of standard input that are not empty, each without what follows a # or =.
 fn lines() -> Vec<String> {
@@ -63,6 +66,9 @@ fn main() -> ExitCode {
         ["--gate-exhaustive", capacity, length] => every_list(number(capacity), number(length), &mut emit),
         ["--gate-aimed"] => gate_aimed().iter().for_each(|(_, case)| emit(&bytes(|out| case.write_bytes(out)))),
         ["--gate-aimed-words"] => gate_aimed().iter().for_each(|(words, _)| emit(format!("{words}\n").as_bytes())),
+        ["--batch", seed, count] => batches(number(seed), number(count), &mut |case| emit(&bytes(|out| case.write_bytes(out)))),
+        ["--batch-aimed"] => batch_aimed().iter().for_each(|(_, case)| emit(&bytes(|out| case.write_bytes(out)))),
+        ["--batch-aimed-words"] => batch_aimed().iter().for_each(|(words, _)| emit(format!("{words}\n").as_bytes())),
         ["--records"] => {
             for line in lines() {
                 let fields: Vec<u64> = line.split_whitespace().map(number).collect();
@@ -78,6 +84,10 @@ fn main() -> ExitCode {
         }),
         ["--gate-cases"] => lines().iter().for_each(|line| {
             let case = case(line, |mut take| GateCase::read(&mut take)).expect("a first number of 0 or 1 and the code of a call");
+            emit(&bytes(|out| case.write_bytes(out)));
+        }),
+        ["--batch-cases"] => lines().iter().for_each(|line| {
+            let case = case(line, |mut take| BatchCase::read(&mut take));
             emit(&bytes(|out| case.write_bytes(out)));
         }),
         [seed, records] => {

@@ -91,6 +91,12 @@ impl Table {
         stopped(|| self.state.walked(key, peek)).flatten()
     }
 
+    /// How many slots the original's search along the key's chain visits until `ends` says so at one, and whether the chain ended before. At each slot
+    /// `ends` is given the slot, the key that is in it, if any, and whether it is clean. None where the original stops.
+    pub fn search(&self, key: CacheKey, ends: impl FnMut(usize, Option<CacheKey>, bool) -> bool) -> Option<(usize, bool)> {
+        stopped(|| self.state.search(key, ends))
+    }
+
     fn bucket(&self, key: CacheKey) -> usize {
         key.bucket_of(self.lengths.len() as u64) as usize
     }

@@ -1,7 +1,7 @@
 // SPDX-License-Identifier: Apache-2.0
 //! The private fields of the original `State` and `LoadToken`, read and made.
 
-use core::cell::Cell;
+use core::cell::{Cell, RefCell};
 
 use super::index::Index;
 use super::index::invariant_failure;
@@ -84,6 +84,18 @@ impl State {
             }
         });
         found.is_none().then(|| walked.get())
+    }
+
+    /// The original's search along the key's chain, to the first slot at which it is to end, or to the end of the chain: how many slots it visits, and
+    /// whether the chain ended. At each slot `ends` is given the slot, the key that is in it, if any, and whether it is clean.
+    pub(in crate::cache) fn search(&self, key: CacheKey, ends: impl FnMut(usize, Option<CacheKey>, bool) -> bool) -> (usize, bool) {
+        let (visited, ends) = (Cell::new(0), RefCell::new(ends));
+        let ended = self.index.find(key, |slot| {
+            visited.set(visited.get() + 1);
+            let held = &self.slots[slot];
+            ends.borrow_mut()(slot, held.key(), matches!(held, Slot::Clean { .. }))
+        });
+        (visited.get(), ended.is_none())
     }
 
     /// Without the kept lengths, which stand beside this table.

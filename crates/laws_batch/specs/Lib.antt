@@ -1,0 +1,3 @@
+-- SPDX-License-Identifier: Apache-2.0
+pub mod Single
+pub mod Laws
