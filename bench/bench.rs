@@ -29,6 +29,8 @@ struct Sheet {
     counted: usize,
     /// What its batches visit.
     visits: Vec<Visits>,
+    /// What its costs restore.
+    restores: Vec<u64>,
 }
 
 /// What makes the record of a call from the page of its key.
@@ -72,13 +74,17 @@ fn reclaim(limit: usize) -> [u64; 3] {
     record(9, 0, limit, 0)
 }
 
-/// 64 keys in one peek, and a single peek: codes that crates/bench has besides.
+/// 64 keys in one peek, a single peek, and what a resize will cost: codes that crates/bench has besides.
 fn batch(page: u64, stride: u64) -> [u64; 3] {
     record(11, 0, stride as usize, page)
 }
 
 fn peek(page: u64) -> [u64; 3] {
     record(12, 0, 0, page)
+}
+
+fn cost(capacity: usize) -> [u64; 3] {
+    record(13, 0, capacity, 0)
 }
 
 fn next(random: &mut u64) -> u64 {
@@ -88,7 +94,7 @@ fn next(random: &mut u64) -> u64 {
 
 impl Sheet {
     fn new(name: impl Into<String>, capacity: usize) -> Self {
-        Self { name: name.into(), capacity, maintained: false, whole: Vec::new(), without: Vec::new(), counted: 0, visits: Vec::new() }
+        Self { name: name.into(), capacity, maintained: false, whole: Vec::new(), without: Vec::new(), counted: 0, visits: Vec::new(), restores: Vec::new() }
     }
 
     fn take(&mut self, record: [u64; 3]) {
@@ -103,15 +109,26 @@ impl Sheet {
 
     /// A new table with every slot clean: the pages from 1 to the capacity.
     fn full(&mut self) {
-        self.full_of(self.pages());
+        self.full_of(self.capacity, self.pages());
     }
 
-    fn full_of(&mut self, pages: impl Iterator<Item = u64>) {
-        self.take(new(self.capacity));
+    fn full_of(&mut self, capacity: usize, pages: impl Iterator<Item = u64>) {
+        self.take(new(capacity));
         for page in pages {
             self.take(access(page));
             self.take(publish(page));
         }
+    }
+
+    /// The original has no cost but the resize itself, so the table is given up after it.
+    fn cost(&mut self, asked: usize) {
+        self.count(cost(asked));
+        self.take(new(1));
+    }
+
+    /// The answers of the original in place, added up.
+    fn original(&self, records: &[u64]) -> u64 {
+        in_place::run(records, self.maintained, &self.visits, &self.restores)
     }
 
     fn pages(&self) -> std::ops::RangeInclusive<u64> {
@@ -119,7 +136,7 @@ impl Sheet {
     }
 }
 
-/// The sheets of one capacity. About `calls` calls are counted in each, and a tenth of that in those of resize and reclaim.
+/// The sheets of one capacity. About `calls` calls are counted in each, and a tenth of that, or less, in those of resize, cost and reclaim.
 fn sheets(capacity: usize, calls: usize) -> Vec<Sheet> {
     let size = capacity as u64;
     let tables = calls / capacity;
@@ -184,6 +201,17 @@ fn sheets(capacity: usize, calls: usize) -> Vec<Sheet> {
         sheet.count(resize(capacity));
     }
     all.push(sheet);
+    let half = capacity / 2;
+    for (name, from, to) in [("cost of a resize to half", capacity, half), ("cost of a resize from half", half, capacity)] {
+        let mut sheet = Sheet::new(name, capacity);
+        sheet.maintained = true;
+        for _ in 0..tables.div_ceil(10) {
+            sheet.full_of(from, 1..=from as u64);
+            sheet.cost(to);
+        }
+        sheet.restores = original_counted::in_place::restores(&sheet.whole);
+        all.push(sheet);
+    }
     for (name, limit) in [("reclaim, 1 slot", 1), ("reclaim, 16 slots", 16)] {
         let mut sheet = Sheet::new(name, capacity);
         sheet.maintained = true;
@@ -216,7 +244,7 @@ impl Keys {
     fn sheets(&self, capacity: usize, calls: usize, full_of: impl Iterator<Item = u64> + Clone) -> [Sheet; 2] {
         let [mut together, mut single] = [TOGETHER, " in 64 single peeks"].map(|how| {
             let mut sheet = Sheet::new(format!("{}{how}", self.name), capacity);
-            sheet.full_of(full_of.clone());
+            sheet.full_of(capacity, full_of.clone());
             sheet
         });
         let mut random = 1_u64;
@@ -242,7 +270,7 @@ fn copy(from: &[u64; TABLE / 8], to: &mut [u64; TABLE / 8]) {
 
 fn same_answers(sheet: &Sheet) {
     for records in [&sheet.whole, &sheet.without] {
-        assert_eq!(ours(records), in_place::run(records, sheet.maintained, &sheet.visits), "{}: the two sides answer alike", sheet.name);
+        assert_eq!(ours(records), sheet.original(records), "{}: the two sides answer alike", sheet.name);
     }
 }
 
@@ -271,7 +299,7 @@ mod timing {
         let (mut a, mut b) = ([1_u64; TABLE / 8], [2_u64; TABLE / 8]);
         for turn in 0..=REPEATS {
             let port = seconds(|| ours(&sheet.whole)) - seconds(|| ours(&sheet.without));
-            let original = |records: &[u64]| seconds(|| in_place::run(records, sheet.maintained, &sheet.visits));
+            let original = |records: &[u64]| seconds(|| sheet.original(records));
             let rust = original(&sheet.whole) - original(&sheet.without);
             let copies = seconds(|| {
                 for _ in 0..COPIES / 2 {

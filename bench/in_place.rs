@@ -125,19 +125,33 @@ impl Visits {
 /// Those of each batch of a sheet without resize and reclaim, told by walks along the original's chains.
 pub fn visits(sheet: &[u64]) -> Vec<Visits> {
     let mut all = Vec::new();
-    run_in::<State>(sheet, |table, key, stride| {
+    let visited = |table: &State, key, stride| {
         let visits = Visits::of(&table.picture(), key, stride);
         all.push(visits);
         visits.batch
-    });
+    };
+    run_in::<State>(sheet, visited, || unreachable!());
     all
 }
 
-/// `visits`: those of the sheet's batches. The original's calls do not count the slots that they visit, and here nothing is to slow them down.
-pub fn run(sheet: &[u64], maintained: bool, visits: &[Visits]) -> u64 {
-    let mut visits = visits.iter();
+/// Those of each cost of a sheet without batches and resizes, told by the build that counts them.
+pub fn restores(sheet: &[u64]) -> Vec<u64> {
+    let mut all = Vec::new();
+    let restored = || {
+        let restores = crate::restores::taken();
+        all.push(restores);
+        restores
+    };
+    run_in::<Cache>(sheet, |_, _, _| unreachable!(), restored);
+    all
+}
+
+/// `visits`: those of the sheet's batches; `restores`: those of its costs. The original's calls count neither, and here nothing is to slow them down.
+pub fn run(sheet: &[u64], maintained: bool, visits: &[Visits], restores: &[u64]) -> u64 {
+    let (mut visits, mut restores) = (visits.iter(), restores.iter());
     let visited = |_: &State, _, _| visits.next().expect("the visits of a batch").batch;
-    if maintained { run_in::<Cache>(sheet, visited) } else { run_in::<State>(sheet, visited) }
+    let restored = || *restores.next().expect("the restores of a cost");
+    if maintained { run_in::<Cache>(sheet, visited, restored) } else { run_in::<State>(sheet, visited, restored) }
 }
 
 /// The number of an access; a reservation puts its token in the named place.
@@ -154,7 +168,8 @@ fn accessed(answer: Result<state::Access, state::Error>, place: &mut LoadToken) 
     }
 }
 
-fn run_in<P: Place>(sheet: &[u64], mut visited: impl FnMut(&State, CacheKey, u64) -> u64) -> u64 {
+/// `visited`: the slots that a batch visits; `restored`: the restores of the cost that was just told.
+fn run_in<P: Place>(sheet: &[u64], mut visited: impl FnMut(&State, CacheKey, u64) -> u64, mut restored: impl FnMut() -> u64) -> u64 {
     let mut place = P::new(1);
     let mut tokens: [LoadToken; 16] = [Token::default().into(); 16];
     let pins = [0_u8; 256];
@@ -199,6 +214,15 @@ fn run_in<P: Place>(sheet: &[u64], mut visited: impl FnMut(&State, CacheKey, u64
                 continue;
             }
             12 => place.table(|table| table.peek_clean(key)).map_or(7000, |slot| 1000 + slot as u64),
+            13 => {
+                // The resize itself, and what it leaves. The sheet's next record is a new table.
+                let clean = place.table(|table| table.clean());
+                add(place.resize(number));
+                add(place.table(|table| table.capacity()) as u64);
+                add((clean - place.table(|table| table.clean())) as u64);
+                add(restored());
+                continue;
+            }
             _ => place.reclaim(number),
         };
         add(answer);

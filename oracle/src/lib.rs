@@ -1,5 +1,6 @@
 // SPDX-License-Identifier: Apache-2.0
-//! The original page cache table, built unchanged, and what runs it: document 01's calls, run sheets and made-up tables, and document 02's gate and batches.
+//! The original page cache table, built unchanged, and what runs it: document 01's calls, run sheets and made-up tables, and document 02's gate,
+//! batches and costs.
 //! `cache` is the original module; oracle/build puts its files beside our stand-ins.
 
 extern crate alloc;
@@ -9,18 +10,22 @@ mod cache;
 pub mod batch;
 pub mod calls;
 pub mod case;
+pub mod cost;
 pub mod gate_calls;
 pub mod gate_case;
 pub mod make_aimed;
 pub mod make_batch;
 pub mod make_batch_aimed;
 pub mod make_cases;
+pub mod make_cost;
+pub mod make_cost_aimed;
 pub mod make_gate;
 pub mod make_gate_aimed;
 pub mod make_sheets;
 pub mod past;
 pub mod picture;
 pub mod random;
+pub mod restores;
 pub mod sheet;
 
 pub use cache::raw::gate::{Did, Gate, Turned};

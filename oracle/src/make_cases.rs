@@ -121,7 +121,7 @@ fn any_key(table: &Picture, few: Few, random: &mut Random) -> CacheKey {
 }
 
 /// One place of the table is changed, or two that belong together.
-fn damage(table: &mut Picture, few: Few, random: &mut Random) {
+pub fn damage(table: &mut Picture, few: Few, random: &mut Random) {
     let slot = any_slot(table, random);
     let at = random.below(table.slots.len() as u64) as usize;
     let heads = table.heads.len() as u64;
@@ -184,7 +184,7 @@ fn record(kind: u8, key: CacheKey, number: u64) -> Record {
 }
 
 /// The key of a slot a second time in another occupied slot of the same bucket, so that only the doubling is wrong.
-fn double(table: &mut Picture, at: usize, random: &mut Random) {
+pub fn double(table: &mut Picture, at: usize, random: &mut Random) {
     let bucket = |record: &Record| record.key.bucket_of(table.buckets);
     let of = bucket(&table.slots[at]);
     let same: Vec<usize> =

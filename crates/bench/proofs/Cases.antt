@@ -23,6 +23,7 @@ use Rattle.maintenance_reclaim.specs.Answers.{Reclaiming}
 use Rattle.maintenance_reclaim.specs.Reclaim.{reclaim}
 use Rattle.maintenance_resize.specs.Answers.{Resizing}
 use Rattle.maintenance_resize.specs.Resize.{resize}
+use Rattle.maintenance_resize.specs.Cost.{Costs, cost}
 use Rattle.gate.specs.declared.Gate.{Gate}
 use Rattle.gate.specs.Gate.{at_first}
 use Rattle.passage.specs.Access.{access_through}
@@ -30,7 +31,7 @@ use Rattle.batch.specs.Batch.{Peeking, peek_batch}
 use Rattle.bench.specs.declared.Sum.{Sum}
 use Rattle.bench.specs.Reel.{reel}
 use Rattle.bench.specs.Sum.{no_sum, plus, word_of, access_number, done_number, found_number, size_number}
-use Rattle.bench.specs.Run.{Running, running, no_token, start, lent_pins, lent_list, placed, after_done, after_access, after_lookup, after_resize, after_reclaim, after_batch, after_peek, run_code, code_of, place_of, number_of, key_of, run_record, run_from, total}
+use Rattle.bench.specs.Run.{Running, running, no_token, start, lent_pins, lent_list, placed, after_done, after_access, after_lookup, after_resize, after_reclaim, after_batch, after_peek, after_cost, run_code, code_of, place_of, number_of, key_of, run_record, run_from, total}
 
 -- a record in front of what is left, taken
 run_shift : (n : ℕ) (chunk later : List ℕ) (at : ℕ) (x : Running) → run_from n (chunk ++ later) (length chunk + at) x ≡ run_from n later at x
@@ -130,8 +131,13 @@ module _ (t : State) (tokens : List LoadToken) (sum : Sum) (head file index : �
     unfolding run_record run_code after_resize lent_pins lent_list
     resize_goes m more code e = rw (more, m, code, ← lent, ← e)
 
+    pub cost_goes : {a : Costs} {r s u v : Sum} {n : ℕ} → n ≡ size_number a.answer → r ≡ plus sum n → s ≡ plus r a.capacity → u ≡ plus s a.drops
+        → v ≡ plus u a.restores → code_of head ≡ 13 → a ≡ cost t (number_of head) (take k (replicate 256 0)) → Goes t tokens v
+    unfolding run_record run_code after_cost lent_pins
+    cost_goes m first second third more code e = rw (more, third, second, first, m, code, ← lent, ← e)
+
     pub reclaim_goes : {a : Reclaiming} {s : Sum} {n : ℕ} → n ≡ word_of 10000 a.count → s ≡ plus sum n
-        → Not 1 × Not 2 × Not 3 × Not 4 × Not 5 × Not 8 × Not 10 × Not 11 × Not 12 → a ≡ reclaim t (number_of head) (take k (replicate 256 0)) → Goes a.table tokens s
+        → Not 1 × Not 2 × Not 3 × Not 4 × Not 5 × Not 8 × Not 10 × Not 11 × Not 12 × Not 13 → a ≡ reclaim t (number_of head) (take k (replicate 256 0)) → Goes a.table tokens s
     unfolding run_record run_code after_reclaim lent_pins
-    reclaim_goes m more (n1, n2, n3, n4, n5, n8, n10, n11, n12) e =
-        rw (more, m, ne_eqb _ _ n1, ne_eqb _ _ n2, ne_eqb _ _ n3, ne_eqb _ _ n4, ne_eqb _ _ n5, ne_eqb _ _ n8, ne_eqb _ _ n10, ne_eqb _ _ n11, ne_eqb _ _ n12, ← lent, ← e)
+    reclaim_goes m more (n1, n2, n3, n4, n5, n8, n10, n11, n12, n13) e =
+        rw (more, m, ne_eqb _ _ n1, ne_eqb _ _ n2, ne_eqb _ _ n3, ne_eqb _ _ n4, ne_eqb _ _ n5, ne_eqb _ _ n8, ne_eqb _ _ n10, ne_eqb _ _ n11, ne_eqb _ _ n12, ne_eqb _ _ n13, ← lent, ← e)

@@ -21,6 +21,7 @@ use Rattle.maintenance_reclaim.specs.Answers.{Reclaiming}
 use Rattle.maintenance_reclaim.specs.Reclaim.{reclaim}
 use Rattle.maintenance_resize.specs.Answers.{Resizing}
 use Rattle.maintenance_resize.specs.Resize.{resize}
+use Rattle.maintenance_resize.specs.Cost.{Costs, cost}
 use Rattle.gate.specs.Gate.{at_first}
 use Rattle.passage.specs.Access.{access_through}
 use Rattle.batch.specs.Batch.{PEEK_BATCH, Peeking, peek_batch}
@@ -95,8 +96,12 @@ after_batch x p = running x.table x.tokens (fold plus (plus (plus x.sum (done_nu
 unfoldable pub after_peek : Running → Try (Option ℕ) → Running
 after_peek x found = added x x.table (found_number found)
 
--- the calls by their codes. No run sheet has 10 to 12: access through a gate as at first, one peek for a reel's keys, and one for one key. Reclaim
--- is 9, and every code that is not timed counts as one.
+-- what a resize will cost: its answer, the capacity, the keys dropped and the restores; table and tokens stay
+unfoldable pub after_cost : Running → Costs → Running
+after_cost x c = running x.table x.tokens (plus (plus (plus (plus x.sum (size_number c.answer)) c.capacity) c.drops) c.restores)
+
+-- the calls by their codes. No run sheet has 10 to 13: access through a gate as at first, one peek for a reel's keys, one for one key, and what a
+-- resize will cost. Reclaim is 9, and every code that is not timed counts as one.
 unfoldable pub run_code : Running → ℕ → ℕ → ℕ → CacheKey → Running
 run_code x code place number key =
     if code == 1 then after_done x (new number) else
@@ -108,6 +113,7 @@ run_code x code place number key =
     if code == 10 then after_access x place (access_through x.table at_first key true (lent_pins x.table)) else
     if code == 11 then after_batch x (peek_batch x.table (reel PEEK_BATCH key number) PEEK_BATCH (replicate PEEK_BATCH NONE)) else
     if code == 12 then after_peek x (peek_clean x.table key) else
+    if code == 13 then after_cost x (cost x.table number (lent_pins x.table)) else
     after_reclaim x (reclaim x.table number (lent_pins x.table))
 
 -- a record: three numbers of 8 bytes. The first holds code, kind, token place and number, the others are file and index.

@@ -1,7 +1,8 @@
 // SPDX-License-Identifier: Apache-2.0
 // What bench/ times of the port: a run sheet through the calls, one after the other on one table in a local. Only the calls that are timed
-// are taken, and no line is written. Three codes are added to a run sheet's: 10 is access through a gate, which stays as at first; 11 is one peek for
-// 64 keys, that of the record and those behind it, as many pages apart as its number says; 12 is one peek for the record's key.
+// are taken, and no line is written. Four codes are added to a run sheet's: 10 is access through a gate, which stays as at first; 11 is one peek for
+// 64 keys, that of the record and those behind it, as many pages apart as its number says; 12 is one peek for the record's key; 13 is what a resize to
+// the record's number will cost.
 // `as`: there is no `From` between u64 and usize, and `try_from` could fail.
 #![tactic(auto)]
 
@@ -165,7 +166,7 @@ pub extern "C" fn tallboycrow_bench(sheet: &[u64]) -> u64
             index,
         };
         let count = t.capacity.min(basics::MAX_CAPACITY);
-        // The codes are document 01's numbers, and 10 to 12. A byte may be any: the last arm takes the rest.
+        // The codes are document 01's numbers, and 10 to 13. A byte may be any: the last arm takes the rest.
         match head % 256 {
             1 => {
                 let made = State::try_new(number);
@@ -222,6 +223,14 @@ pub extern "C" fn tallboycrow_bench(sheet: &[u64]) -> u64
             }
             12 => {
                 sum = sum.plus(of_found(state_search::peek_clean(t, key)));
+            }
+            13 => {
+                let cost = maintenance_resize::cost(t, number, &pins[..count]);
+                sum = sum
+                    .plus(of_maintenance(cost.answer))
+                    .plus(cost.capacity as u64)
+                    .plus(cost.drops as u64)
+                    .plus(cost.restores as u64);
             }
             _ => {
                 let batch = maintenance_reclaim::reclaim(t, number, &pins[..count]);

@@ -357,7 +357,8 @@ pub fn put_access(page: &mut Page, answer: Result<Access, Refusal>)
     }
 }
 
-fn put_maintenance(page: &mut Page, answer: Result<Maintenance, Refusal>, places: usize)
+// The answer of resize; `places` is how many more numbers follow.
+pub fn put_maintenance(page: &mut Page, answer: Result<Maintenance, Refusal>, places: usize)
     ensures { Within page.old page.new }
 {
     match answer {

@@ -3,8 +3,8 @@
 -- was raised to 128 or more, and half of 256 is no more. So its doubling is not met. Assumes nothing.
 use Prim.Native.Nat.{ℕ, suc, ◌+◌, ◌/◌, ◌<◌, ◌≤◌, max}
 use native.Mathlib.Omega.{arith}
-use mathlib.Core.Path.{◌≡◌, refl, ◌∙◌}
-use mathlib.Core.Bool.{Bool, true, false, ◌&&◌}
+use mathlib.Core.Path.{◌≡◌, ◌∙◌}
+use mathlib.Core.Bool.{Bool, false}
 use Rattle.std.proofs.Math.Bool.{and-false}
 use mathlib.Core.List.{List}
 use lib.ListN.{length}

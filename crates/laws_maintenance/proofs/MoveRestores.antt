@@ -92,7 +92,7 @@ module _ {t : State} {pins : List ℕ} {n : State} {k : ℕ} {m : Moving} (f : F
           room = omega (arith, f.room, room_here, a.one, a.over.capacity, slots_sum a.drawn.calm.inv, a.drawn.calm.quiet, slots_sum g.new.calm.inv, g.new.calm.quiet);
         }
 
-fill_step : (t : State) → Calm t → (pins : List ℕ) (n : State) (k : ℕ) (m : Moving) → k < t.capacity → Filling t pins n k m → Reaches (Filling t pins n (k + 1)) (restore_rest k m)
+pub fill_step : (t : State) → Calm t → (pins : List ℕ) (n : State) (k : ℕ) (m : Moving) → k < t.capacity → Filling t pins n k m → Reaches (Filling t pins n (k + 1)) (restore_rest k m)
 unfolding restore_rest restore_unless keep_new
 fill_step t w pins n k m hk f =
     elim (is (is_clean (slot_at m.old k))) [
@@ -112,13 +112,16 @@ fill_step t w pins n k m hk f =
     ]
 
 -- ── the whole `for` ──
-pub restore_rest_lem : (t : State) → Calm t → (pins : List ℕ) (n : State) (m : Moving) → Dropped t pins n m → Reaches (Filling t pins n t.capacity) (each_slot restore_rest t.capacity 0 m)
-restore_rest_lem t w pins n m d =
+pub fill_start : (t : State) (pins : List ℕ) (n : State) (m : Moving) → Dropped t pins n m → Filling t pins n 0 m
+fill_start t pins n m d =
     let l = d.left in
     let lo = l.going.old in
-    each_slot_lem restore_rest (Filling t pins n) t.capacity (fill_step t w pins n) m (record {
+    record {
       going = l.going;
       absent = λ s h hs c. rw (lo.part s c) at (l.apart s hs c);
       settled = λ s hs. absurd (omega arith);
       room = omega (arith, all_ahead m.old lo.inv, d.fits, slots_sum l.going.new.calm.inv, l.going.new.calm.quiet);
-    })
+    }
+
+pub restore_rest_lem : (t : State) → Calm t → (pins : List ℕ) (n : State) (m : Moving) → Dropped t pins n m → Reaches (Filling t pins n t.capacity) (each_slot restore_rest t.capacity 0 m)
+restore_rest_lem t w pins n m d = each_slot_lem restore_rest (Filling t pins n) t.capacity (fill_step t w pins n) m (fill_start t pins n m d)

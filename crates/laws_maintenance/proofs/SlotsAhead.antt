@@ -1,16 +1,18 @@
 -- SPDX-License-Identifier: Apache-2.0
--- How many clean slots there are from a slot on: from 0 on all of them, and behind a clean slot one less. Assumes nothing.
+-- How many clean slots there are from a slot on: from 0 on all of them, behind a clean slot one less, and behind the last none. Assumes nothing.
 use Prim.Native.Nat.{ℕ, ◌+◌, ◌<◌}
 use native.Mathlib.Omega.{arith}
 use mathlib.Core.Path.{◌≡◌, sym, ◌∙◌}
 use mathlib.Core.Bool.{Bool, false, ◌&&◌}
+use mathlib.Core.List.{[]}
 use lib.Dec.{leb, eqb}
 use borrow.Author.Tests.{eqb-true, eqb-false, leb-true, leb-false, le-leb, lt-leb}
 use Rattle.basics.specs.Lists.{down}
 use Rattle.basics.specs.Counts.{bit, count}
-use Rattle.basics.proofs.Tests.{yes!, no!, is}
+use Rattle.basics.proofs.Tests.{yes!, no!, is, and_left}
 use Rattle.basics.proofs.Maps.{put}
-use Rattle.basics.proofs.Keeps.{count_agree, count_put}
+use Rattle.basics.proofs.Members.{in_none}
+use Rattle.basics.proofs.Keeps.{count_agree, count_put, count_list}
 use Rattle.state.specs.declared.State.{State}
 use Rattle.state.specs.Slots.{slot_at, is_clean}
 use Rattle.laws_table.specs.Table.{Inv}
@@ -25,6 +27,12 @@ ahead o k = count (clean_from o k) (down o.capacity)
 pub all_ahead : (o : State) → Inv o → ahead o 0 ≡ o.clean
 unfolding ahead
 all_ahead o v = count_agree (clean_from o 0) (λ (x : ℕ). is_clean (slot_at o x)) (down o.capacity) (λ x m. rw (le-leb 0 x (omega arith))) ∙ sym v.clean
+
+pub none_ahead : (o : State) → ahead o o.capacity ≡ 0
+unfolding ahead
+none_ahead o =
+    count_list (clean_from o o.capacity) o.capacity [] tt (λ x i. absurd (in_none i))
+    (λ x hx e. absurd (omega (arith, leb-true o.capacity x (and_left (leb o.capacity x) (is_clean (slot_at o x)) e))))
 
 pub next_ahead : (o : State) (k : ℕ) → k < o.capacity → ahead o (k + 1) + bit (is_clean (slot_at o k)) ≡ ahead o k
 unfolding ahead

@@ -36,16 +36,16 @@ module _ (t : State) (list : List ℕ) where
   past (refuse n) y h = (refl, refl)
 
   -- the steps of a remaking, each with what comes after it
-  abbrev moved : Moving → Try Resizing
+  abbrev pub moved : Moving → Try Resizing
   moved d = ok (record { table = inherit d.new d.old; answer = ok (resized d.new.capacity); list = d.list })
 
-  abbrev restored : Moving → Try Resizing
+  abbrev pub restored : Moving → Try Resizing
   restored c = each_slot move_rest t.capacity 0 c >>= moved
 
-  abbrev dropped : Moving → Try Resizing
+  abbrev pub dropped : Moving → Try Resizing
   dropped b = each_slot restore_rest t.capacity 0 b >>= restored
 
-  abbrev left : Moving → Try Resizing
+  abbrev pub left : Moving → Try Resizing
   left a = drop_oldest 257 a >>= dropped
 
   remade : (new : State) → Calls (remake t new)

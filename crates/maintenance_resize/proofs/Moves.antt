@@ -20,7 +20,7 @@ use Rattle.index.specs.Chain.{CHAIN, head_of, next_of, length_of}
 use Rattle.eviction.specs.Entries.{at}
 use Rattle.state.specs.declared.State.{State}
 use Rattle.state.specs.declared.Slot.{Slot}
-use Rattle.state.specs.Slots.{slot_at, vacant_slot, clean_with}
+use Rattle.state.specs.Slots.{slot_at, vacant_slot, is_clean, clean_with}
 use Rattle.state.specs.Fresh.{sound}
 use Rattle.state.specs.Find.{ended}
 use Rattle.state.specs.Remove.{detach_clean, remove_clean}
@@ -31,6 +31,8 @@ use Rattle.maintenance_restore.specs.Restore.{restore}
 use Rattle.std.specs.Prelude.{Ok}
 use Rattle.maintenance_resize.specs.Move.{Moving, moving_of, leave_to, leave_pinned, drop_oldest}
 use Rattle.maintenance_resize.specs.Move.{keep_new, restore_unless, restore_rest, move_or_remove, move_rest}
+use Rattle.maintenance_restore.specs.Tries.{tries_on}
+use Rattle.maintenance_resize.specs.Cost.{tries_slot, tries_rest}
 use lib.Seq.{take-set-lt, get_or-take}
 
 -- ---- a step for each slot
@@ -144,6 +146,38 @@ module _ (slot : ℕ) (old made : State) (list : List ℕ) where
       unfolding restore_rest restore_unless keep_new
       rest_tried true r same = each_step restore_rest old.capacity slot (moving_of old made list) l ∙ rw (← same_entry l, eq-eqb entry.kind 2 k, ← p, ← same_entry l, ← r)
       rest_tried false r same = each_step restore_rest old.capacity slot (moving_of old made list) l ∙ rw (← same_entry l, eq-eqb entry.kind 2 k, ← p, ← same_entry l, ← r, same refl)
+
+-- its count
+module _ (slot : ℕ) (old made : State) (list : List ℕ) where
+  abbrev counting : ℕ → State → ℕ
+  counting s t = tries_rest (old.capacity - s) s (moving_of old t list)
+
+  -- the slot's own restore, and those after it
+  counting_step : slot < old.capacity → counting slot made
+      ≡ (if is_clean (entry slot old made list) then tries_slot (peek_clean made (entry slot old made list).key) else 0)
+      + tries_on (restore_rest slot (moving_of old made list)) (tries_rest (old.capacity - (slot + 1)) (slot + 1))
+  unfolding tries_rest
+  counting_step l = rw (left_suc old.capacity slot l, ← same_entry slot old made list l)
+
+  pub count_end : old.capacity ≤ slot → counting slot made ≡ 0
+  unfolding tries_rest
+  count_end l = rw (left_none old.capacity slot l)
+
+  pub count_unclean : slot < old.capacity → ((entry slot old made list).kind ≡ 2 → ⊥) → counting slot made ≡ counting (slot + 1) made
+  unfolding restore_rest
+  count_unclean l k = counting_step l ∙ rw (← same_entry slot old made list l, ne_eqb (entry slot old made list).kind 2 k) (omega arith)
+
+  module _ (l : slot < old.capacity) (k : (entry slot old made list).kind ≡ 2) where
+    pub count_there : {to : ℕ} → ok (some to) ≡ peek_clean made (entry slot old made list).key → counting slot made ≡ counting (slot + 1) made
+    unfolding restore_rest restore_unless
+    count_there p = counting_step l ∙ rw (← same_entry slot old made list l, eq-eqb (entry slot old made list).kind 2 k, ← p) (omega arith)
+
+    pub count_tried : ok none ≡ peek_clean made (entry slot old made list).key → (room : Bool) {u : State}
+        → restored u (Ok room) ≡ restore made (entry slot old made list).key (entry slot old made list).last_access → (room ≡ false → u ≡ made)
+        → counting slot made ≡ 1 + counting (slot + 1) u
+    unfolding restore_rest restore_unless keep_new
+    count_tried p true r same = counting_step l ∙ rw (← same_entry slot old made list l, eq-eqb (entry slot old made list).kind 2 k, ← p, ← same_entry slot old made list l, ← r)
+    count_tried p false r same = counting_step l ∙ rw (← same_entry slot old made list l, eq-eqb (entry slot old made list).kind 2 k, ← p, ← same_entry slot old made list l, ← r, same refl)
 
 -- ---- the third loop
 module _ (c slot : ℕ) (old made : State) (list : List ℕ) where

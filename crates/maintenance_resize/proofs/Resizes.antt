@@ -1,6 +1,6 @@
 -- SPDX-License-Identifier: Apache-2.0
 -- The tests of resize, and the steps that remake a table, each by what the code answered for it. Assumes nothing.
-use Prim.Native.Nat.{ℕ, ◌≤◌}
+use Prim.Native.Nat.{ℕ, ◌+◌, ◌≤◌}
 use mathlib.Core.Path.{◌≡◌, refl, ap, ◌∙◌}
 use mathlib.Core.Bool.{Bool, true, false}
 use mathlib.Core.List.{List}
@@ -17,6 +17,7 @@ use Rattle.state.specs.declared.State.{State}
 use Rattle.maintenance_resize.specs.Answers.{resized, Resizing}
 use Rattle.maintenance_resize.specs.Resize.{unless_refused, need_input_of, need_input, resize_steps, resize}
 use Rattle.maintenance_resize.specs.Move.{Moving, moving_of, leave_pinned, drop_oldest, restore_rest, move_rest, inherit, remake}
+use Rattle.maintenance_resize.specs.Cost.{tries_rest, tries_remaking}
 use Rattle.std.proofs.lemmas.List.{take-replicate}
 
 module _ (old new : State) (small : old.capacity ≤ 256) where
@@ -41,6 +42,12 @@ module _ (old new : State) (small : old.capacity ≤ 256) where
       pub remake_unfilled : {n : ℕ} → ((l : List ℕ) → refuse n ≡ each_slot restore_rest rest.capacity 0 (moving_of rest new l)) → remake old new ≡ refuse n
       unfolding remake
       remake_unfilled g = rw (← take-replicate old.capacity 256 NONE small, ← e, ← f (take old.capacity slots), ← filled (g (take old.capacity slots)))
+
+      pub remaking_tries : (m : ℕ) {n : ℕ} → ((l : List ℕ) → n ≡ m + tries_rest rest.capacity 0 (moving_of rest new l)) → n ≡ m + tries_remaking old new
+      unfolding tries_remaking
+      remaking_tries m g =
+          g (take old.capacity slots) ∙ ap (λ x. m + tries_rest x 0 (moving_of rest new (take old.capacity slots))) (k ∙ j)
+          ∙ rw (← take-replicate old.capacity 256 NONE small, ← e, ← f (take old.capacity slots)) refl
 
       module _ {made : State} (g : (l : List ℕ) → ok (moving_of rest made l) ≡ each_slot restore_rest rest.capacity 0 (moving_of rest new l)) where
         moved : {r : Try Moving} → r ≡ each_slot move_rest rest.capacity 0 (moving_of rest made (take rest.capacity slots))

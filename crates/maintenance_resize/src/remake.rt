@@ -7,12 +7,14 @@
 // them go by slot number, since they change the table whose slots they go over. All require a capacity of at most 256, which resize has tested (crate
 // state_remove says why no type holds that).
 // Each `as u16` is proved to lose nothing; `try_from` could fail.
-ghost use Rattle.std.specs.Prelude.{◌≡◌, List, ℕ, ◌≤◌, take, length};
+ghost use Rattle.std.specs.Prelude.{◌≡◌, List, ℕ, ◌+◌, ◌≤◌, take, length, IfOk};
 ghost use Rattle.basics.specs.Lists.{each_slot};
 ghost use Rattle.basics.specs.Answers.{tried};
 ghost use Rattle.maintenance_resize.specs.Answers.{maintained_after};
 ghost use Rattle.maintenance_resize.specs.Resize.{unless_refused};
 ghost use Rattle.maintenance_resize.specs.Move.{moving_of, leave_pinned, drop_oldest, restore_rest, move_rest, inherit as inherit_rule, remake as remake_rule};
+ghost use Rattle.maintenance_restore.specs.Tries.{TRIES};
+ghost use Rattle.maintenance_resize.specs.Cost.{tries_rest, tries_remaking};
 
 use crate::Maintenance;
 use basics::Refusal;
@@ -65,14 +67,17 @@ fn drop_oldest(old: &mut State, new: &State) -> Result<(), Refusal>
     Err(Refusal::Stop)
 }
 
-// The rest of the old table's keys are restored in old slot order, where a chain takes them.
-#[tactic(auto, using(crate::proofs::Moves::rest_unclean, crate::proofs::Moves::rest_refused, crate::proofs::Moves::rest_there, crate::proofs::Moves::rest_stops, crate::proofs::Moves::rest_tried, crate::proofs::Moves::rest_end))]
-fn restore_rest(old: &State, new: &mut State) -> Result<(), Refusal>
-    requires { old.now.capacity ≤ 256 }
-    ensures { (list : List ℕ) → tried (moving_of old.now new.new list) result ≡ each_slot restore_rest old.now.capacity 0 (moving_of old.now new.old list) }
+// The rest of the old table's keys are restored in old slot order, where a chain takes them. Each restore is counted.
+#[tactic(auto, using(crate::proofs::Moves::rest_unclean, crate::proofs::Moves::rest_refused, crate::proofs::Moves::rest_there, crate::proofs::Moves::rest_stops, crate::proofs::Moves::rest_tried, crate::proofs::Moves::rest_end, crate::proofs::Moves::count_unclean, crate::proofs::Moves::count_there, crate::proofs::Moves::count_tried, crate::proofs::Moves::count_end))]
+fn restore_rest(old: &State, new: &mut State, tries: &mut usize) -> Result<(), Refusal>
+    requires { (old.now.capacity ≤ 256) × (tries.old ≤ TRIES) }
+    ensures value { (list : List ℕ) → tried (moving_of old.now new.new list) result
+        ≡ each_slot restore_rest old.now.capacity 0 (moving_of old.now new.old list) }
+    ensures tries { (list : List ℕ) → IfOk result (λ _. tries.new ≡ tries.old + tries_rest old.now.capacity 0 (moving_of old.now new.old list)) }
 {
     for entry in &old.slots[..old.capacity] {
         if entry.kind == state::CLEAN && state_search::peek(new, entry.key)?.is_none() {
+            *tries += 1;
             restore(new, entry.key, entry.last_access)?;
         }
     }
@@ -117,15 +122,17 @@ pub(crate) fn remake(
     t: &mut State,
     mut new: State,
     list: &mut [u16],
+    tries: &mut usize,
 ) -> Result<Maintenance, Refusal>
-    requires { (t.old.capacity ≤ 256) × (length list.old ≡ t.old.capacity) }
-    ensures { maintained_after (record { state = t.new; answer = result }) list.new ≡ unless_refused t.old list.old (remake_rule t.old new) }
+    requires { ((t.old.capacity ≤ 256) × (length list.old ≡ t.old.capacity)) × (tries.old ≤ TRIES) }
+    ensures value { maintained_after (record { state = t.new; answer = result }) list.new ≡ unless_refused t.old list.old (remake_rule t.old new) }
+    ensures tries { IfOk result (λ _. tries.new ≡ tries.old + tries_remaking t.old new) }
 {
     let mut rest = *t;
     let mut slots = [basics::NONE; 256];
     leave_pinned(&mut rest, &new, &mut slots)?;
     drop_oldest(&mut rest, &new)?;
-    restore_rest(&rest, &mut new)?;
+    restore_rest(&rest, &mut new, tries)?;
     move_rest(&mut rest, &new, &mut slots)?;
     inherit(&mut new, &rest);
     list.copy_from_slice(&slots[..list.len()]);

@@ -1,5 +1,5 @@
 // SPDX-License-Identifier: Apache-2.0
-//! Writes sheets, made-up tables, gate cases and batch cases to standard output. The README says what each form makes.
+//! Writes sheets, made-up tables, gate cases, batch cases and cost cases to standard output. The README says what each form makes.
 
 use std::io::{BufWriter, Write, stdin, stdout};
 use std::process::ExitCode;
@@ -11,15 +11,18 @@ use original::make_aimed::aimed;
 use original::make_batch::batches;
 use original::make_batch_aimed::batch_aimed;
 use original::make_cases::cases;
+use original::make_cost::{costs, sheet_costs};
+use original::make_cost_aimed::cost_aimed;
 use original::make_gate::{every_list, lists};
 use original::make_gate_aimed::gate_aimed;
 use original::make_sheets::{Maker, ends, exhaustive, exhaustive_deep};
-use original::sheet::Record;
+use original::sheet::{RESIZE, Record};
 use original::written;
 
 const USAGE: &str = "usage: rust_gen SEED RECORDS | --exhaustive CAPACITY LENGTH | --deep CAPACITY LENGTH | --ends CAPACITY |
     --made-up SEED COUNT | --aimed | --aimed-words | --gate SEED COUNT | --gate-exhaustive CAPACITY LENGTH | --gate-aimed | --gate-aimed-words |
-    --batch SEED COUNT | --batch-aimed | --batch-aimed-words | --records | --cases | --gate-cases | --batch-cases";
+    --batch SEED COUNT | --batch-aimed | --batch-aimed-words | --cost SEED COUNT | --cost-sheets SEED COUNT | --cost-aimed |
+    --cost-aimed-words | --records | --cases | --gate-cases | --batch-cases | --cost-cases";
 
 /// The lines of standard input that are not empty, each without what follows a # or =.
 fn lines() -> Vec<String> {
@@ -69,6 +72,10 @@ fn main() -> ExitCode {
         ["--batch", seed, count] => batches(number(seed), number(count), &mut |case| emit(&bytes(|out| case.write_bytes(out)))),
         ["--batch-aimed"] => batch_aimed().iter().for_each(|(_, case)| emit(&bytes(|out| case.write_bytes(out)))),
         ["--batch-aimed-words"] => batch_aimed().iter().for_each(|(words, _)| emit(format!("{words}\n").as_bytes())),
+        ["--cost", seed, count] => costs(number(seed), number(count), &mut |case| emit(&bytes(|out| case.write_bytes(out)))),
+        ["--cost-sheets", seed, count] => sheet_costs(number(seed), number(count), &mut |case| emit(&bytes(|out| case.write_bytes(out)))),
+        ["--cost-aimed"] => cost_aimed().iter().for_each(|(_, case)| emit(&bytes(|out| case.write_bytes(out)))),
+        ["--cost-aimed-words"] => cost_aimed().iter().for_each(|(words, _)| emit(format!("{words}\n").as_bytes())),
         ["--records"] => {
             for line in lines() {
                 let fields: Vec<u64> = line.split_whitespace().map(number).collect();
@@ -78,8 +85,9 @@ fn main() -> ExitCode {
                 emit(&bytes(|out| record.write(out)));
             }
         }
-        ["--cases"] => lines().iter().for_each(|line| {
+        [form @ ("--cases" | "--cost-cases")] => lines().iter().for_each(|line| {
             let case = case(line, |mut take| Case::read(&mut take));
+            assert!(form == "--cases" || case.code == RESIZE, "a cost case has the code of resize");
             emit(&bytes(|out| case.write_bytes(out)));
         }),
         ["--gate-cases"] => lines().iter().for_each(|line| {

@@ -2,7 +2,7 @@
 -- `bench::tallboycrow_bench` meets its contract: the records that are left, from what stands, come to what the sheet comes to. Assumes nothing.
 use Rattle.std.proofs.Common.{rules, ap, sym, ◌∙◌}
 use Rattle.bench.specs.Run.{run_from, total, checksum}
-use Rattle.bench.proofs.Cases.{on, run_end, starts, total_told, new_goes, access_goes, publish_goes, abort_goes, lookup_goes, resize_goes, through_goes, batch_goes, peek_goes, reclaim_goes}
+use Rattle.bench.proofs.Cases.{on, run_end, starts, total_told, new_goes, access_goes, publish_goes, abort_goes, lookup_goes, resize_goes, through_goes, batch_goes, peek_goes, cost_goes, reclaim_goes}
 use Rattle.bench.proofs.tallboycrow_bench.Goals as goal
 
 pub loop-record-init : goal.loop-record-init
@@ -45,6 +45,10 @@ loop-record-preserved-in-11 c =
 pub loop-record-preserved-in-12 : goal.loop-record-preserved-in-12
 loop-record-preserved-in-12 c =
     on _ _ _ _ c.loop-record.invariant c.in-Some.ensures.steps (peek_goes _ _ _ _ _ _ c.of_found-in-12.ensures c.plus-sum-in-12.ensures c.in-12.is c.peek_clean.ensures)
+
+pub loop-record-preserved-in-13 : goal.loop-record-preserved-in-13
+loop-record-preserved-in-13 c =
+    on _ _ _ _ c.loop-record.invariant c.in-Some.ensures.steps (cost_goes _ _ _ _ _ _ c.min-count.ensures c.of_maintenance-in-13.ensures c.plus-in-13.ensures c.plus-in-13-2.ensures c.plus-in-13-3.ensures c.plus-sum-in-13.ensures c.in-13.is c.cost-cost.ensures)
 
 pub loop-record-preserved : goal.loop-record-preserved
 loop-record-preserved c =

@@ -1,0 +1,10 @@
+-- SPDX-License-Identifier: Apache-2.0
+pub mod Foretells
+pub mod Stops
+pub mod Answers
+pub mod Gate
+pub mod Drops
+pub mod Samples
+pub mod Restored
+pub mod Attempts
+pub mod Tried
