@@ -236,7 +236,7 @@ fn run_in<P: Place>(sheet: &[u64], mut visited: impl FnMut(&State, CacheKey, u64
 }
 
 /// Run sheets of every code, to lines. No table is copied, and no stop is caught: none comes on a sheet. Document 01's rules that the original does not
-/// have (1 and 2 for a capacity, 5, 6, 8 and 9) stand in front of the calls.
+/// have (1 and 2 for a capacity, 5, 6, 8 and 9) stand in front of the calls, and document 02's for the numbers of an emptied table behind a resize.
 #[derive(Default)]
 pub struct Lines {
     cache: Option<Cache>,
@@ -328,17 +328,24 @@ impl Lines {
                 pins[number] = record.allow;
                 Ok(("done", None))
             }
-            8 => match cache.cache.maintain_capacity(capacity(number)?).expect("an answer") {
-                Maintenance::Unchanged => Ok(("unchanged", None)),
-                Maintenance::Busy => Ok(("busy", None)),
-                Maintenance::Resized => {
-                    *pins = cache.cache.state.with(|control| {
-                        let pinned = |page: &Option<_>| page.as_ref().is_some_and(|page: &FallibleArc<OwnedPage<()>>| page.mapping_pinned());
-                        control.table.as_ref().expect("a table").pages.iter().map(|page| pinned(page).into()).collect()
-                    });
-                    Ok(("resized", Some(pins.len())))
+            8 => {
+                let asked = capacity(number)?;
+                let emptied = cache.emptied();
+                match cache.cache.maintain_capacity(asked).expect("an answer") {
+                    Maintenance::Unchanged => Ok(("unchanged", None)),
+                    Maintenance::Busy => Ok(("busy", None)),
+                    Maintenance::Resized => {
+                        if let Some((numbers, old)) = emptied {
+                            cache.table(|table| if table.capacity() < old { table.inherit_history(&numbers) });
+                        }
+                        *pins = cache.cache.state.with(|control| {
+                            let pinned = |page: &Option<_>| page.as_ref().is_some_and(|page: &FallibleArc<OwnedPage<()>>| page.mapping_pinned());
+                            control.table.as_ref().expect("a table").pages.iter().map(|page| pinned(page).into()).collect()
+                        });
+                        Ok(("resized", Some(pins.len())))
+                    }
                 }
-            },
+            }
             _ => Ok(("reclaimed", Some(cache.cache.reclaim_batch(number)))),
         }
     }
@@ -356,6 +363,18 @@ fn capacity(asked: usize) -> Result<usize, u8> {
 impl Cache {
     fn page<A>(&mut self, slot: usize, look: impl FnOnce(&mut Option<FallibleArc<OwnedPage<()>>>) -> A) -> A {
         self.cache.state.with(|control| look(&mut control.table.as_mut().expect("a table").pages[slot]))
+    }
+
+    /// Of a table with no clean slot: its numbers, in a table of one slot, and its capacity. Where it shrinks they carry over by document 02; the original
+    /// begins them at 0.
+    fn emptied(&mut self) -> Option<(State, usize)> {
+        self.table(|table| {
+            (table.clean() == 0).then(|| {
+                let mut numbers = State::try_new(1).expect("a table");
+                numbers.inherit_history(table);
+                (numbers, table.capacity())
+            })
+        })
     }
 
     /// Refusals 5 and 8.

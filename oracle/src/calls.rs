@@ -1,7 +1,7 @@
 // SPDX-License-Identifier: Apache-2.0
 //! Document 01's calls on the original table. Where document 01 has a rule that the original has not, the rule stands in
 //! front of the original's call, under a comment that begins with DIFFERENCE, and is counted each time it decides. So do document 02's rules for the
-//! kept lengths of the chains.
+//! kept lengths of the chains and, behind the call, for the numbers of an emptied table that shrinks.
 
 use std::collections::BTreeMap;
 use std::fmt::Debug;
@@ -253,6 +253,16 @@ pub fn resize(
     let (mut new, mut turned, mut moved) = (table.clone(), *gate, list.to_vec());
     let answer = new.resize(&mut turned, asked, pins, &mut moved);
     below_0(matches!(answer, Ok(Maintained::Resized { below: true, .. })), differences)?;
+    // DIFFERENCE the numbers of an emptied table that shrinks: counts and counters carry over (document 02, request 7). The original makes a fresh table, whose
+    // seven numbers are 0; where the old table's are too there is no difference.
+    if let Ok(Maintained::Resized { emptied: true, .. }) = answer {
+        let fresh = new.numbers();
+        assert_eq!(fresh, [0; 7], "the original begins them at 0");
+        new.inherit(table);
+        if new.numbers() != fresh {
+            differences.count("resize, the numbers of an emptied table that shrinks; the Rust begins them at 0");
+        }
+    }
     (*table, *gate) = (new, turned);
     list.copy_from_slice(&moved);
     let answer = answer?;

@@ -65,16 +65,20 @@ impl Done {
                 // "how many keys it will drop": the clean slots to which the original gave no new one.
                 let dropped = |(slot, to): (&crate::picture::Record, &u64)| slot.kind == CLEAN && *to == u64::from(NONE);
                 let drops = before.slots.iter().zip(&self.answer.more).filter(|at| dropped(*at)).count() as u64;
-                // "Removals count as evictions", but where an emptied table was made anew: it has no counts.
+                // "Removals count as evictions". An emptied table that shrinks removes no key, also where the clean count did not tell those that it drops:
+                // evictions are as they were, since counters carry over.
                 let emptied = before.clean == 0 && after.capacity < before.capacity;
+                let removed = if emptied { 0 } else { drops };
                 let [evictions, counted] = [before, after].map(|table| table.counters[2]);
-                if !emptied && counted != evictions.saturating_add(drops) {
-                    return Err(format!("{drops} keys dropped, and evictions {evictions} before and {counted} after"));
+                if counted != evictions.saturating_add(removed) {
+                    return Err(format!("{drops} keys dropped, {removed} removed, and evictions {evictions} before and {counted} after"));
                 }
                 // Each key of the new table came by a restore. On a table without fault, where no key stands twice, each that is not removed for room is tried
-                // once: an attempt fails only with 65 pinned keys, for which the capacity is at least 128, and half of 256 is no more.
+                // once: an attempt fails only with 65 pinned keys, for which the capacity is at least 128, and half of 256 is no more. An emptied table tries
+                // none.
                 let tried = before.clean.min(after.capacity);
-                if !emptied && (restores < after.clean || before.fault_of_original().is_none() && restores != tried) {
+                let told = emptied || before.fault_of_original().is_none();
+                if restores < after.clean || told && restores != tried {
                     return Err(format!(
                         "{restores} restores, {} clean before, and {} of {} after",
                         before.clean, after.clean, after.capacity

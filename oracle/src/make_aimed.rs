@@ -191,7 +191,7 @@ fn arguments(all: &mut Aimed) {
     all.push(("none -", of_number(CLEAN_ENTRY, &table, 2)));
     all.push(("none -", of_number(CLEAN_ENTRY, &table, 3)));
     all.push(("none -", of_number(COLD_CANDIDATE, &table, 2)));
-    // An empty table that shrinks is a fresh one; one that grows keeps its counts. The list is written in both.
+    // An empty table that shrinks, and one that grows: both keep their counts. The list is written in both.
     let mut table = loaded(2, [1]);
     table.remove_clean(0).expect("a clean slot");
     let empty = table.picture();
@@ -645,6 +645,25 @@ fn lengths_resized(all: &mut Aimed) {
     all.push(("busy -", pinned(of_number(RESIZE, &kept(&halves, half_mate(64), 0), 1), 65)));
 }
 
+/// By the clean count there is no key: a table that shrinks keeps its numbers and no slot, be it pinned, and no eviction is counted; one that grows is remade.
+fn emptied(all: &mut Aimed) {
+    for (counters, generations, uses) in [([0; 5], 0, 1), ([11, 12, 13, 14, 15], 16, 17), ([MAX; 5], MAX, MAX)] {
+        for pages in [&[][..], &[1], &[1, 2, 3]] {
+            let mut table = clean(4, pages.iter().copied());
+            (table.clean, table.counters) = (0, counters);
+            (table.next_load_generation, table.next_access_sequence) = (generations, uses);
+            for places in [0, 1, 2] {
+                let asked = |number| pinned(of_number(RESIZE, &table, number), places);
+                let raised = if places == 2 && pages.len() > 1 { "resized 2" } else { "resized 1" };
+                all.push((raised, asked(1)));
+                all.push(("resized 3", asked(3)));
+            }
+            all.push(("unchanged -", of_number(RESIZE, &table, 4)));
+            all.push(("resized 8", of_number(RESIZE, &table, 8)));
+        }
+    }
+}
+
 pub fn aimed() -> Aimed {
     let mut all = Vec::new();
     for part in [counters, numbers, tokens, arguments, heaps, chains, many, stops] {
@@ -652,7 +671,7 @@ pub fn aimed() -> Aimed {
     }
     // Up to here every length is that of its chain, whatever was done to the table.
     all.iter_mut().for_each(|(_, case): &mut (_, Case)| case.table.lengths = case.table.walked());
-    for part in [lengths_walked, lengths_full, lengths_removed, lengths_resized] {
+    for part in [lengths_walked, lengths_full, lengths_removed, lengths_resized, emptied] {
         part(&mut all);
     }
     all

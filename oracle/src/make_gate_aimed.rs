@@ -341,6 +341,7 @@ fn others(all: &mut Aimed) {
         all.keeps(gate, of_number(DETACH, &table, 0), "done -");
         all.keeps(gate, of_number(DETACH, &table, 3), "refused 5");
         all.keeps(gate, of_number(RECLAIM, &table, 64), "reclaimed 1");
+        all.keeps(gate, Case { pins: vec![0; 2], ..of_number(RECLAIM, &table, 64) }, "refused 3");
         all.on(gate, of_number(NEW, &table, 256), "made 256", OPEN);
         all.on(gate, of_number(NEW, &unsound(), 1), "made 1", OPEN);
         all.keeps(gate, of_number(NEW, &table, 0), "refused 1");
@@ -360,6 +361,32 @@ fn places(all: &mut Aimed) {
     all.then(Case { token, ..call(ABORT, &table) }, "done -", [0, 0, 1, 5]);
     all.then(of_number(RESIZE, &table, 3), "resized 3", [0, 0, 0, 6]);
     all.then(of_number(RECLAIM, &clean(3, []), 1), "reclaimed 1", [0, 0, 0, 6]);
+}
+
+/// An emptied table that shrinks goes on with its generations and use numbers: a token of before gives 6, and 9 is met by an altered one alone. A count that
+/// is spent stays spent.
+fn carried(all: &mut Aimed) {
+    let (two, one) = (clean(2, []), clean(1, []));
+    let token = |code: u8, generation: u64, access_sequence: u64| Case {
+        token: Token { slot: 0, generation, key: key(1), access_sequence },
+        ..call(code, &one)
+    };
+    all.then(of_number(NEW, &one, 2), "made 2", OPEN);
+    all.then(of_page(ACCESS, &two, 1), "reserved 0", OPEN);
+    all.then(token(ABORT, 1, 1), "done -", OPEN);
+    all.then(of_number(RESIZE, &two, 1), "resized 1", [0, 0, 0, 1]);
+    all.then(of_page(ACCESS, &one, 1), "reserved 0", [0, 0, 0, 1]);
+    for code in [PUBLISH, ABORT, VALIDATE] {
+        all.then(token(code, 1, 1), "refused 6", [0, 0, 0, 1]);
+    }
+    all.then(token(PUBLISH, 2, 3), "refused 9", [0, 0, 0, 1]);
+    all.then(token(PUBLISH, 2, 2), "done -", [0, 0, 0, 1]);
+    for (generations, uses) in [(MAX, MAX), (MAX, 5), (5, MAX)] {
+        let mut spent = clean(2, []);
+        (spent.next_load_generation, spent.next_access_sequence) = (generations, uses);
+        all.on(OPEN, of_number(RESIZE, &spent, 1), "resized 1", [0, 0, 0, 1]);
+        all.then(of_page(ACCESS, &one, 1), "refused 7", [0, 0, 0, 1]);
+    }
 }
 
 /// Kept lengths that are not their chains': 10 of a search is met at any gate, and 10 of a removal leaves the gate as it was.
@@ -421,7 +448,7 @@ pub fn gate_aimed() -> Vec<(String, GateCase)> {
     all.then(call(BEGIN_PAUSE, &Picture::default()), "done -", [1, 0, 0, 0]);
     all.then(of_number(NEW, &Picture::default(), 257), "refused 2", [1, 0, 0, 0]);
     all.then(of_number(NEW, &Picture::default(), 2), "made 2", OPEN);
-    for part in [refusals, lengths, shut, equal, loads, spent, undone, attempts, turns, access, others, places] {
+    for part in [refusals, lengths, shut, equal, loads, spent, undone, attempts, turns, access, others, places, carried] {
         part(&mut all);
     }
     // Up to here every length is that of its chain, whatever was done to the table.

@@ -403,8 +403,8 @@ impl Maker {
         }
     }
 
-    /// Tokens from before an empty table shrank. The same keys are reserved before and after, with hits between, so that an
-    /// old token may have the slot, key and generation of a new one and another use number: 9, or it is taken for the new.
+    /// Tokens from before an empty table shrank: 6. The same keys are reserved before and after in the same slots, with hits between, so that generation and
+    /// use number alone tell an old token from a new one.
     fn old_tokens(&mut self) {
         let capacity = self.random.between(2, 5);
         let smaller = self.random.between(1, capacity - 1);

@@ -13,9 +13,9 @@ use Rattle.basics.specs.Refusals.{EXHAUSTED}
 use Rattle.basics.specs.Numbers.{MAX}
 use Rattle.basics.proofs.Tests.{yes!, no!, is}
 use Rattle.state.specs.declared.State.{State}
-use Rattle.maintenance_resize.specs.Answers.{unchanged, busy_now, resized, Resizing}
+use Rattle.maintenance_resize.specs.Answers.{unchanged, busy_now, Resizing}
 use Rattle.maintenance_resize.specs.Resize.{resize}
-use Rattle.laws_maintenance.specs.Resize.{refused!, unchanged!, busy!, emptied!, remade! }
+use Rattle.laws_maintenance.specs.Resize.{refused!, unchanged!, busy!, remade! }
 use Rattle.laws_maintenance.proofs.ResizeLaw.{resize_law}
 use Rattle.gate.specs.declared.Gate.{Gate}
 use Rattle.gate.specs.Gate as gates
@@ -61,10 +61,7 @@ module _ (t : State) (g : Gate) (l : Ledger) (a : Agree t l.keys) (w : Told g l)
         | busy! e q ↦
             let r : (resize t asked pins list).answer ≡ ok busy_now = ap (λ (x : Resizing). x.answer) e in
             record { keeps = k.keeps; agrees = k.agrees; pauses = rw r w.pauses; dirty = rw r w.dirty; mark = rw (r, s, n) w.pending; may = rw r tt }
-        | emptied! e q c pos lt ↦
-            let r : (resize t asked pins list).answer ≡ ok (resized _) = ap (λ (x : Resizing). x.answer) e in
-            record { keeps = k.keeps; agrees = k.agrees; pauses = rw r w.pauses; dirty = rw r w.dirty; mark = rw r; may = rw (r, s, n) tt }
-        | remade! m c fit ↦
+        | remade! m c ↦
             record {
               keeps = k.keeps;
               agrees = k.agrees;

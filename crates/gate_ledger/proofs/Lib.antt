@@ -1,7 +1,9 @@
 -- SPDX-License-Identifier: Apache-2.0
 pub mod Told
+pub mod Through
 pub mod Demand3
 pub mod StaysValid
+pub mod Conservation
 pub mod Samples
 pub mod LaterBusy
 pub mod Cheats

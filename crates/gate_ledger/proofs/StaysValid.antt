@@ -7,7 +7,6 @@ use mathlib.Core.Bool.{false≢true}
 use mathlib.Core.List.{List, [], ◌∷◌}
 use Prim.Native.Nat.{ℕ}
 use lib.Dec.{ltb, eqb}
-use lib.ListN.{length}
 use Rattle.basics.specs.Numbers.{MAX}
 use Rattle.basics.proofs.Tests.{yes!, no!, is}
 use Rattle.state.specs.declared.State.{State}
@@ -19,40 +18,21 @@ use Rattle.laws_maintenance.proofs.CallsKeep.{runs, resize_keeps_lem}
 use Rattle.gate.specs.declared.Gate.{Gate}
 use Rattle.gate.specs.Gate as gates
 use Rattle.passage.specs.Access.{access_through}
-use Rattle.passage.specs.Resize.{attempt_rule, pass_steps, resize_through}
+use Rattle.passage.specs.Resize.{resize_through}
 use Rattle.ledger.specs.Calls as Plain
 use Rattle.ledger.specs.Valid.{Goes}
 use Rattle.ledger.proofs.StaysValid.{call_valid}
 use Rattle.gate_ledger.specs.Calls.{Turn, begin_pause, end_pause, begin_dirty, end_dirty, Call, call, turn}
 use Rattle.gate_ledger.specs.Calls.{rules, turn_gate, Standing, start, fine, event, after, run}
 use Rattle.gate_ledger.specs.Valid.{Runs, StaysValidGated}
-use Rattle.gate_ledger.proofs.Told.{out!, in!, input_law}
+use Rattle.gate_ledger.proofs.Through.{stays!, resizes!, through_law}
 
-module _ (t : State) (v : Valid t) (g : Gate) (asked : ℕ) (pins list : List ℕ) where
-  steps_keep : ResizeKept (pass_steps t g asked pins list).resizing
-  unfolding pass_steps attempt_rule
-  steps_keep =
-      elim (is (gates.stops g)) [
-        | yes! e ↦ rw e (record { valid = v; runs = runs refl (omega arith) })
-        | no! e ↦ elim (is (eqb asked t.capacity)) [
-          | yes! f ↦ rw (e, f) (record { valid = v; runs = runs refl (omega arith) })
-          | no! f ↦ elim (is (ltb 0 t.loading)) [
-            | yes! h ↦ rw (e, f, h) (record { valid = v; runs = runs refl (omega arith) })
-            | no! h ↦ elim (is (eqb g.generation MAX)) [
-              | yes! i ↦ rw (e, f, h, i) (record { valid = v; runs = runs refl (omega arith) })
-              | no! i ↦ rw (e, f, h, i) (resize_keeps_lem t v asked pins list)
-            ]
-          ]
-        ]
-      ]
-
-  through_keeps : ResizeKept (resize_through t g asked pins list).resizing
-  unfolding resize_through
-  through_keeps =
-      elim (input_law t asked (length pins) (length list)) [
-        | out! n e q z ↦ rw e (record { valid = v; runs = runs refl (λ s. false≢true (sym (z s) ∙ sound_inv t v.0)) })
-        | in! e ↦ rw e steps_keep
-      ]
+through_keeps : (t : State) → Valid t → (g : Gate) (asked : ℕ) (pins list : List ℕ) → ResizeKept (resize_through t g asked pins list).resizing
+through_keeps t v g asked pins list =
+    elim (through_law t g asked pins list) [
+      | stays! a e k z ↦ rw e (record { valid = v; runs = λ s. false≢true (sym (z s) ∙ sound_inv t v.0) })
+      | resizes! e ↦ rw e (resize_keeps_lem t v asked pins list)
+    ]
 
 turn_runs : (g : Gate) (k : Turn) → Goes (fine (turn_gate g k))
 unfolding turn_gate gates.begin_pause gates.end_pause gates.begin_dirty gates.end_dirty gates.one_more gates.one_less
@@ -62,7 +42,7 @@ turn_runs g begin_dirty = elim (is (eqb g.dirty MAX)) [ yes! e ↦ rw e (runs re
 turn_runs g end_dirty = elim (is (ltb 0 g.dirty)) [ yes! e ↦ rw e (runs refl (omega arith)) | no! e ↦ rw e (runs refl (omega arith)) ]
 
 -- ── one call ──
-gated_valid : (s : Standing) → Valid s.table → (c : Call) → Valid (after rules s c).table × Runs (event rules s c)
+pub gated_valid : (s : Standing) → Valid s.table → (c : Call) → Valid (after rules s c).table × Runs (event rules s c)
 unfolding event after access_through Plain.event Plain.after
 gated_valid s v (call (Plain.access key allow pins)) = call_valid s.table v (Plain.access key (gates.admits s.gate allow) pins)
 gated_valid s v (call (Plain.publish k)) = call_valid s.table v (Plain.publish k)

@@ -121,7 +121,7 @@ module _ (t : State) (list : List ℕ) where
       omega (arith, candidate_most 9 t pins (ltb c t.capacity) c u q, e)))
 
   to : (pins : List ℕ) (c : ℕ) → t.loading ≡ 0 → Calls (tries_to t pins c) (resize_to t pins list c)
-  unfolding resize_to tries_to fresh_start fresh empty
+  unfolding resize_to tries_to fresh_start inherit fresh empty
   to pins c quiet =
       elim (is (eqb c t.capacity)) [
         | yes! e ↦ rw e refl

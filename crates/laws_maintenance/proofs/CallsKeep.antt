@@ -8,11 +8,9 @@ use Rattle.basics.specs.Try.{Try, ok, refuse}
 use Rattle.basics.specs.Refusals.{STOP}
 use Rattle.state.specs.declared.State.{State}
 use Rattle.maintenance_resize.specs.Answers.{Resizing}
-use Rattle.maintenance_restore.specs.Pins.{raised}
 use Rattle.maintenance_resize.specs.Resize.{resize}
 use Rattle.maintenance_reclaim.specs.Reclaim.{reclaim}
 use Rattle.laws_table.specs.Table.{Dated, Valid}
-use Rattle.laws_table.proofs.FreshTable.{fresh_valid}
 use Rattle.laws_maintenance.specs.Remade.{Remade}
 use Rattle.laws_maintenance.specs.Resize as resizes
 use Rattle.laws_maintenance.specs.Resize.{ResizeKept}
@@ -43,8 +41,7 @@ resize_keeps_lem t w asked pins list =
       | resizes.refused! n e ne n7 ↦ rw e (record { valid = w; runs = runs refl ne })
       | resizes.unchanged! e h ↦ rw e (record { valid = w; runs = runs refl (omega arith) })
       | resizes.busy! e h ↦ rw e (record { valid = w; runs = runs refl (omega arith) })
-      | resizes.emptied! e q c pos lt ↦ rw e (record { valid = fresh_valid (raised asked pins) pos (omega (arith, w.0.small)); runs = runs refl (omega arith) })
-      | resizes.remade! m c fit ↦ record { valid = (m.calm.inv, m.calm.distinct, dated t pins (resize t asked pins list) m w.2); runs = runs m.answer (omega arith) }
+      | resizes.remade! m c ↦ record { valid = (m.calm.inv, m.calm.distinct, dated t pins (resize t asked pins list) m w.2); runs = runs m.answer (omega arith) }
     ]
 
 -- ── reclaim ──

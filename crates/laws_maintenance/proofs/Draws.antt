@@ -7,7 +7,6 @@ use mathlib.Core.Bool.{true, false, false≢true}
 use mathlib.Core.Option.{Option, none, some}
 use lib.Dec.{eqb}
 use lib.ListN.{length}
-use lib.Seq.{get_or-set_same, get_or-set_other}
 use borrow.Author.Tests.{eqb-true, eqb-false}
 use Rattle.basics.specs.Try.{Try, ok}
 use Rattle.basics.proofs.Tests.{yes!, no!, is}
@@ -15,9 +14,10 @@ use Rattle.key.specs.declared.CacheKey.{CacheKey}
 use Rattle.index.specs.Chain.{CHAIN}
 use Rattle.state.specs.declared.Slot.{Slot}
 use Rattle.state.specs.declared.State.{State}
-use Rattle.state.specs.Slots.{slot_at, vacant_slot, clean_slot, is_clean, occupied}
+use Rattle.state.specs.Slots.{slot_at, clean_slot, is_clean, occupied}
 use Rattle.maintenance_restore.specs.Restore.{restore}
 use Rattle.laws_table.specs.Table.{Inv, Absent, Step}
+use Rattle.laws_table.proofs.ValidSteps.{step_here, step_other}
 use Rattle.laws_table.proofs.SlotKinds.{clean_occupied}
 use Rattle.laws_table.proofs.StepReserve.{chain_of}
 use Rattle.laws_maintenance.specs.Calm.{Calm, Present}
@@ -66,10 +66,10 @@ module _ (o : State) (w : Calm o) (n : State) (d : Drawn o n) (s : ℕ) (hs : s 
 
   module _ (u : State) (x nu ng : ℕ) (free : occupied (slot_at n x) ≡ false) (p : Step n u x now nu ng (n.clean + 1) n.loading) where
     at_new : slot_at u x ≡ now
-    at_new = rw p.slots (get_or-set_same n.slots x now vacant_slot (omega (arith, p.low, d.calm.inv.size, d.calm.inv.small)))
+    at_new = step_here p d.calm.inv
 
     at_old : (y : ℕ) → (y ≡ x → ⊥) → slot_at u y ≡ slot_at n y
-    at_old y h = rw p.slots (get_or-set_other n.slots x y now vacant_slot h)
+    at_old y h = step_other p y h
 
     -- a slot of the new table: the new one, or an old one
     by_slot : (P : ℕ → Slot → Type 0) → P x now → ((y : ℕ) → y < n.capacity → P y (slot_at n y)) → (y : ℕ) → y < u.capacity → P y (slot_at u y)

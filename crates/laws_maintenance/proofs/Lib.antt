@@ -18,6 +18,8 @@ pub mod MoveDrops
 pub mod MoveRestores
 pub mod MoveEnds
 pub mod Remakes
+pub mod RemadeSlots
+pub mod Emptied
 pub mod ResizeLaw
 pub mod ReclaimLaw
 pub mod ReclaimedSlots

@@ -8,7 +8,7 @@ use mathlib.Core.Bool.{true, false, ◌&&◌, false≢true}
 use mathlib.Core.List.{List}
 use lib.Dec.{ltb, leb, eqb}
 use lib.ListN.{length, get_or}
-use borrow.Author.Tests.{eqb-true, eqb-false, ltb-true, ltb-false, leb-true, eq-eqb}
+use borrow.Author.Tests.{eqb-true, eqb-false, ltb-true, ltb-false, leb-true}
 use Rattle.basics.specs.Try.{Try, ◌>>=◌}
 use Rattle.basics.specs.Refusals.{INVALID, ALLOCATION, PINS, LIST, UNCLEAN}
 use Rattle.basics.specs.Capacity.{need_capacity}
@@ -20,16 +20,17 @@ use Rattle.state.specs.Slots.{slot_at, is_clean}
 use Rattle.maintenance_resize.specs.Answers.{Resizing}
 use Rattle.maintenance_restore.specs.Pins.{pins_clean, raised}
 use Rattle.maintenance_restore.specs.Restore.{candidate}
-use Rattle.maintenance_resize.specs.Resize.{unless_refused, fresh_start, remake_or_busy, resize_to, resize_steps, resize}
+use Rattle.maintenance_resize.specs.Resize.{unless_refused, remake_or_busy, resize_to, resize_steps, resize}
 use Rattle.laws_table.specs.Table.{Inv, Distinct, Absent}
 use Rattle.laws_table.proofs.TableParts.{sound_inv}
 use Rattle.laws_maintenance.specs.Calm.{Calm}
 use Rattle.laws_maintenance.specs.Remade.{kept!, lost!, Remade}
-use Rattle.laws_maintenance.specs.Resize.{ResizeOutcome, refused!, unchanged!, busy!, emptied!, remade! }
+use Rattle.laws_maintenance.specs.Resize.{ResizeOutcome, refused!, unchanged!, busy!, remade! }
 use Rattle.laws_maintenance.proofs.PinBytes.{raised_pins, raised_pos, raised_small, pins_clean_lem}
 use Rattle.laws_maintenance.proofs.PinnedKeys.{none!, some! }
 use Rattle.laws_maintenance.proofs.Candidates.{candidate_law, choke_small}
 use Rattle.laws_maintenance.proofs.Remakes.{remake_law}
+use Rattle.laws_maintenance.proofs.Emptied.{emptied, fresh_start_size}
 
 module _ (t : State) (v : Inv t) (dis : Distinct t.slots t.capacity) (asked : ℕ) (pins list : List ℕ) where
   abbrev c : ℕ
@@ -44,24 +45,25 @@ module _ (t : State) (v : Inv t) (dis : Distinct t.slots t.capacity) (asked : �
     w = record { inv = v; quiet = quiet; distinct = dis }
 
     -- "Else pinned keys are restored .. into a fresh table"
-    resize_made : (c ≡ t.capacity → ⊥) → (t.clean ≡ 0 → t.capacity < c) → Out (candidate 9 t pins (ltb c t.capacity) c >>= remake_or_busy t list)
+    resize_made : (c ≡ t.capacity → ⊥) → Out (candidate 9 t pins (ltb c t.capacity) c >>= remake_or_busy t list)
     unfolding remake_or_busy
-    resize_made ne fill =
+    resize_made ne =
         elim (candidate_law t w pins lp (pins_clean_lem t pins pc) c (ltb c t.capacity) 8 (raised_pos asked pins (omega (arith, v.small))) (raised_small asked pins (omega (arith, v.small)) high) (raised_pins asked pins)) [
           | none! h e ↦ rw e (busy! refl (inr (omega (arith, choke_small t w pins c h, ne), h)))
-          | some! n p e ↦ let r = remake_law t w pins n c p ne in rw (e, r.gives) (remade! r.good.remade r.good.capacity fill)
+          | some! n p e ↦ let r = remake_law t w pins n c p ne in rw (e, r.gives) (remade! r.good.remade r.good.capacity)
         ]
 
     resize_on : Out (resize_to t pins list c)
-    unfolding resize_to fresh_start
+    unfolding resize_to
     resize_on =
         elim (is (eqb c t.capacity)) [
           | yes! e ↦ rw e (unchanged! refl (inr (eqb-true c t.capacity e)))
           | no! e ↦ elim (is (eqb t.clean 0 && ltb c t.capacity)) [
-            | yes! q ↦ rw (e, q) (emptied! refl quiet (eqb-true t.clean 0 (and_left (eqb t.clean 0) (ltb c t.capacity) q)) (raised_pos asked pins (omega (arith, v.small))) (ltb-true c t.capacity (and_right (eqb t.clean 0) (ltb c t.capacity) q)))
-            | no! q ↦
-                let ne = eqb-false c t.capacity e in
-                rw (e, q) (resize_made ne (λ h. let z : ltb c t.capacity ≡ false = rw (eq-eqb t.clean 0 h) at q in omega (arith, ltb-false c t.capacity z, ne)))
+            | yes! q ↦
+                let none = eqb-true t.clean 0 (and_left (eqb t.clean 0) (ltb c t.capacity) q) in
+                let falls = ltb-true c t.capacity (and_right (eqb t.clean 0) (ltb c t.capacity) q) in
+                rw (e, q) (remade! (emptied t w pins c (raised_pos asked pins (omega (arith, v.small))) falls none) (fresh_start_size t c))
+            | no! q ↦ rw (e, q) (resize_made (eqb-false c t.capacity e))
           ]
         ]
 

@@ -1,20 +1,19 @@
 -- SPDX-License-Identifier: Apache-2.0
 -- A clean slot that leaves: it is vacant, the others stay; and what is left of a table. Assumes nothing.
 use Prim.Native.Nat.{ℕ}
-use native.Mathlib.Omega.{arith}
 use mathlib.Core.Path.{◌≡◌, refl, sym, ap, ◌∙◌}
 use mathlib.Core.Bool.{true, false, false≢true}
-use lib.Seq.{get_or-set_same, get_or-set_other}
 use Rattle.state.specs.declared.State.{State}
 use Rattle.state.specs.Slots.{slot_at, vacant_slot, is_clean}
 use Rattle.laws_table.specs.Table.{Inv, Step}
+use Rattle.laws_table.proofs.ValidSteps.{step_here, step_other}
 
 module _ {o u : State} {x nu ng nc nl : ℕ} (v : Inv o) (p : Step o u x vacant_slot nu ng nc nl) where
   pub out_here : slot_at u x ≡ vacant_slot
-  out_here = rw p.slots (get_or-set_same o.slots x vacant_slot vacant_slot (omega (arith, p.low, v.size, v.small)))
+  out_here = step_here p v
 
   pub out_other : (s : ℕ) → (s ≡ x → ⊥) → slot_at u s ≡ slot_at o s
-  out_other s n = rw p.slots (get_or-set_other o.slots x s vacant_slot vacant_slot n)
+  out_other s n = step_other p s n
 
   pub out_unclean : is_clean (slot_at u x) ≡ false
   out_unclean = ap is_clean out_here

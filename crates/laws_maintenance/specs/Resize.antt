@@ -1,11 +1,9 @@
 -- SPDX-License-Identifier: Apache-2.0
 -- What resize comes to on a table with the invariant: every answer, and what it leaves; 7 and 10 are none of them.
-use Rattle.std.specs.Prelude.{ℕ, ◌<◌, ◌≡◌, ◌⊎◌, List, replicate}
+use Rattle.std.specs.Prelude.{ℕ, ◌<◌, ◌≡◌, ◌⊎◌, List}
 use Rattle.basics.specs.Try.{Try, ok, refuse}
 use Rattle.basics.specs.Refusals.{STOP, EXHAUSTED}
-use Rattle.basics.specs.Numbers.{NONE}
 use Rattle.state.specs.declared.State.{State}
-use Rattle.state.specs.Fresh.{fresh}
 use Rattle.maintenance_resize.specs.Answers.{Size, unchanged, busy_now, resized, Resizing}
 use Rattle.maintenance_restore.specs.Pins.{raised}
 use Rattle.maintenance_resize.specs.Resize.{listed, resize}
@@ -22,13 +20,8 @@ pub data ResizeOutcome (t : State) (asked : ℕ) (pins list : List ℕ) (r : Res
   busy! : r ≡ listed t busy_now list
       → (0 < t.loading) ⊎ ((raised asked pins < t.capacity) × Chokes t pins (raised asked pins))
       → ResizeOutcome t asked pins list r
-  -- "No clean slot and shrinking: a fresh table, all counts 0."
-  emptied! : r ≡ listed (fresh (raised asked pins)) (resized (raised asked pins)) (replicate t.capacity NONE)
-      → t.loading ≡ 0 → t.clean ≡ 0 → 0 < raised asked pins → raised asked pins < t.capacity
-      → ResizeOutcome t asked pins list r
-  -- the raised capacity is the one made, never a doubled one
-  remade! : Remade t pins r → r.table.capacity ≡ raised asked pins → (t.clean ≡ 0 → t.capacity < raised asked pins)
-      → ResizeOutcome t asked pins list r
+  -- the raised capacity is the one made, never a doubled one; an emptied table is remade like any other
+  remade! : Remade t pins r → r.table.capacity ≡ raised asked pins → ResizeOutcome t asked pins list r
 
 -- what a resize leaves: a valid table, and an answer that is not 10
 pub record ResizeKept (r : Resizing) : Type 0 where

@@ -1,31 +1,29 @@
 -- SPDX-License-Identifier: Apache-2.0
 -- What resize leaves of a table in order and of its pins, and that only a capacity is refused. Assumes nothing.
+use Rattle.std.proofs.Common.{Option as Maybe}
 use Prim.Native.Nat.{ℕ, ◌+◌, ◌≤◌, ◌<◌, ◌^◌}
 use native.Mathlib.Omega.{arith}
 use mathlib.Core.Path.{◌≡◌, refl, sym, ◌∙◌}
 use mathlib.Core.Bool.{true, false, ◌&&◌, false≢true}
 use mathlib.Core.List.{List}
 use lib.Dec.{eqb, ltb, leb}
-use lib.ListN.{length, replicate}
+use lib.ListN.{length}
 use borrow.Author.Tests.{eq-eqb, eqb-false, ltb-true, ltb-false, leb-true}
 use Rattle.basics.specs.Try.{Try, ok, refuse, ◌>>=◌}
 use Rattle.basics.specs.Lists.{some?}
-use Rattle.basics.specs.Numbers.{NONE}
 use Rattle.basics.specs.Capacity.{need_capacity}
 use Rattle.basics.proofs.Tests.{is, yes!, no!, and_left}
 use Rattle.basics.proofs.Capacities.{capacity_allowed}
 use Rattle.eviction.specs.Victim.{unpinned}
 use Rattle.state.specs.declared.State.{State}
+use Rattle.state.specs.declared.LoadToken.{LoadToken}
 use Rattle.state.specs.Slots.{slot_at, is_clean}
-use Rattle.state.specs.Fresh.{empty, fresh}
 use Rattle.state.specs.Answers.{After}
 use Rattle.maintenance_resize.specs.Answers.{Size, unchanged, busy_now, resized, Resizing}
 use Rattle.maintenance_restore.specs.Pins.{pins_clean, raised}
 use Rattle.maintenance_restore.specs.Restore.{candidate}
 use Rattle.maintenance_resize.specs.Resize.{unless_refused, fresh_start, remake_or_busy, resize_to, resize_steps, resize}
-use Rattle.laws_table.proofs.StepParts.{clean_pos}
 use Rattle.laws_table.proofs.TableParts.{sound_inv}
-use Rattle.laws_table.proofs.FreshTable.{fresh_valid}
 use Rattle.laws_maintenance.specs.Calm.{Calm}
 use Rattle.laws_maintenance.specs.Remade.{kept!, lost! }
 use Rattle.laws_maintenance.specs.Resize as resizes
@@ -56,7 +54,7 @@ pins_moved pins list (refuse n) = pins
 abbrev pub after_resize : Resizing → After Size
 after_resize r = record { table = r.table; answer = r.answer }
 
-module _ (t : State) (pins : List ℕ) (g : InOrder t pins) (lent : List ℕ) (lp : length lent ≡ t.capacity) (lent_same : (x : ℕ) → x < t.capacity → unpinned lent x ≡ unpinned pins x) (list : List ℕ) (ll : length list ≡ t.capacity) (asked : ℕ) where
+module _ (t : State) (pins : List ℕ) (places : List (Maybe LoadToken)) (g : InOrder t pins places) (lent : List ℕ) (lp : length lent ≡ t.capacity) (lent_same : (x : ℕ) → x < t.capacity → unpinned lent x ≡ unpinned pins x) (list : List ℕ) (ll : length list ≡ t.capacity) (asked : ℕ) where
   -- a pinned slot is a clean one
   on_clean : (x : ℕ) → x < t.capacity → unpinned lent x ≡ false → is_clean (slot_at t x) ≡ true
   on_clean x h e = g.clean x (sym (lent_same x h) ∙ e)
@@ -102,39 +100,33 @@ module _ (t : State) (pins : List ℕ) (g : InOrder t pins) (lent : List ℕ) (l
 
   -- ── what it leaves ──
   module _ (n : ℕ) (k : Counted n t) where
-    moved_leaves : (u : State) (list : List ℕ) (a : Try Size) (c : ℕ) → a ≡ ok (resized c) → InOrder u (move_pins (length list) pins list 0 no_pins) → Counted (n + 1) u → Leaves n 8 (pins_moved pins list a) (record { table = u; answer = a })
+    moved_leaves : (u : State) (list : List ℕ) (a : Try Size) (c : ℕ) → a ≡ ok (resized c) → InOrder u (move_pins (length list) pins list 0 no_pins) places → Counted (n + 1) u → Leaves n 8 (pins_moved pins list a) places (record { table = u; answer = a })
     moved_leaves u list a c e o m = rw e (record { order = o; counted = m; answer = refl })
 
-    granted : 0 < asked → asked ≤ 256 → Leaves n 8 (pins_moved pins (resize t asked lent list).list (resize t asked lent list).answer) (after_resize (resize t asked lent list))
-    unfolding fresh empty
+    granted : 0 < asked → asked ≤ 256 → Leaves n 8 (pins_moved pins (resize t asked lent list).list (resize t asked lent list).answer) places (after_resize (resize t asked lent list))
     granted pos small =
         elim (resize_law t g.valid.0 g.valid.1 asked lent list) [
           | resizes.refused! m e ne n7 ↦ absurd (resize_answers pos small m (rw e))
-          | resizes.unchanged! e h ↦ rw e (record { order = g; counted = same n t pins g k; answer = refl })
-          | resizes.busy! e h ↦ rw e (record { order = g; counted = same n t pins g k; answer = refl })
-          | resizes.emptied! e q none hp lt ↦
-              let c = raised asked lent in
-              let o = no_pins_lem (fresh c) (fresh_valid c hp (omega (arith, g.valid.0.small))) in
-              let gone = pins_moved_lem (length (replicate t.capacity NONE)) (fresh c) pins (replicate t.capacity NONE) 0 no_pins o g.bit (λ x a b z. absurd (omega (arith, clean_pos t g.valid.0 x (g.low x z) (g.clean x z)))) in
-              rw e (record { order = gone; counted = record { uses = omega arith; generations = omega arith }; answer = refl })
-          | resizes.remade! m e fit ↦
+          | resizes.unchanged! e h ↦ rw e (record { order = g; counted = same n t pins places g k; answer = refl })
+          | resizes.busy! e h ↦ rw e (record { order = g; counted = same n t pins places g k; answer = refl })
+          | resizes.remade! m fit ↦
               let r = resize t asked lent list in
-              let o = no_pins_lem r.table (resize_keeps_lem t g.valid asked lent list).valid in
+              let o = no_pins_lem r.table places (resize_keeps_lem t g.valid asked lent list).valid (λ x h q. omega (arith, g.given x h q, m.uses)) in
               moved_leaves r.table r.list r.answer r.table.capacity m.answer
-              (pins_moved_lem (length r.list) r.table pins r.list 0 no_pins o g.bit (λ x a b z. elim (m.places x (g.low x z) (g.clean x z)) [
+              (pins_moved_lem (length r.list) r.table places pins r.list 0 no_pins o g.bit (λ x a b z. elim (m.places x (g.low x z) (g.clean x z)) [
                 | kept! low clean key last ↦ (low, clean)
                 | lost! a b free d why ↦ absurd (false≢true (sym z ∙ sym (lent_same x (g.low x z)) ∙ free))
               ]))
-              (later n t pins g k (omega (arith, m.uses)) (omega (arith, m.generations)))
+              (later n t pins places g k (omega (arith, m.uses)) (omega (arith, m.generations)))
         ]
 
-    pub resize_leaves : Leaves n 8 (pins_moved pins (resize t asked lent list).list (resize t asked lent list).answer) (after_resize (resize t asked lent list))
+    pub resize_leaves : Leaves n 8 (pins_moved pins (resize t asked lent list).list (resize t asked lent list).answer) places (after_resize (resize t asked lent list))
     unfolding resize need_capacity refusable some?
     resize_leaves =
         elim (is (ltb 0 asked && leb asked (2 ^ 62))) [
-          | no! e ↦ rw (sound_inv t g.valid.0, e) (record { order = g; counted = same n t pins g k; answer = refl })
+          | no! e ↦ rw (sound_inv t g.valid.0, e) (record { order = g; counted = same n t pins places g k; answer = refl })
           | yes! e ↦ elim (is (leb asked 256)) [
-            | no! q ↦ rw (sound_inv t g.valid.0, e, q) (record { order = g; counted = same n t pins g k; answer = refl })
+            | no! q ↦ rw (sound_inv t g.valid.0, e, q) (record { order = g; counted = same n t pins places g k; answer = refl })
             | yes! q ↦ granted (ltb-true 0 asked (and_left (ltb 0 asked) (leb asked (2 ^ 62)) e)) (leb-true asked 256 q)
           ]
         ]

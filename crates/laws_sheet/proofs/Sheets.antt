@@ -12,7 +12,7 @@ use lib.ListN.{length, drop, length-drop}
 use borrow.Author.Tests.{eqb-true, eqb-false, lt-leb, leb-true}
 use Rattle.basics.specs.Lists.{some?}
 use Rattle.basics.specs.Numbers.{MAX}
-use Rattle.basics.specs.Refusals.{PINS, LIST, EXHAUSTED, UNCLEAN, STOP}
+use Rattle.basics.specs.Refusals.{PINS, LIST, EXHAUSTED, UNCLEAN, UNGIVEN, STOP}
 use Rattle.basics.proofs.Tests.{is, yes!, no! }
 use Rattle.state.specs.Fresh.{empty, no_table}
 use Rattle.sheet_lines.specs.declared.Said.{Said}
@@ -74,33 +74,33 @@ sheet_stands records bytes = by_then (0 + records) records (run_from records sta
 -- what no row of the table has, and what only two have
 abbrev Row : Bool → ℕ → List ℕ → Type 0
 Row spent code row =
-    (some? (eqb PINS) row ≡ false) × (some? (eqb LIST) row ≡ false) × (some? (eqb STOP) row ≡ false) × (some? (eqb UNCLEAN) row ≡ true → (code ≡ 6) ⊎ (code ≡ 7)) × (spent ≡ false → some? (eqb EXHAUSTED) row ≡ false)
+    (some? (eqb PINS) row ≡ false) × (some? (eqb LIST) row ≡ false) × (some? (eqb UNGIVEN) row ≡ false) × (some? (eqb STOP) row ≡ false) × (some? (eqb UNCLEAN) row ≡ true → (code ≡ 6) ⊎ (code ≡ 7)) × (spent ≡ false → some? (eqb EXHAUSTED) row ≡ false)
 
 spent_row : (spent : Bool) (code : ℕ) → Row spent code (if spent then EXHAUSTED ∷ [] else [])
 unfolding some?
-spent_row true code = (refl, refl, refl, λ e. absurd (false≢true e), λ e. absurd (false≢true (sym e)))
-spent_row false code = (refl, refl, refl, λ e. absurd (false≢true e), λ e. refl)
+spent_row true code = (refl, refl, refl, refl, λ e. absurd (false≢true e), λ e. absurd (false≢true (sym e)))
+spent_row false code = (refl, refl, refl, refl, λ e. absurd (false≢true e), λ e. refl)
 
 row : (spent : Bool) (code : ℕ) → Row spent code (refusals spent code)
 unfolding some?
 row spent code =
     elim (is (eqb code 1)) [
-      | yes! e ↦ rw (eqb-true code 1 e) (refl, refl, refl, λ q. absurd (false≢true q), λ q. refl)
+      | yes! e ↦ rw (eqb-true code 1 e) (refl, refl, refl, refl, λ q. absurd (false≢true q), λ q. refl)
       | no! e1 ↦ elim (is (eqb code 2)) [
         | yes! e ↦ rw (eqb-true code 2 e) (spent_row spent 2)
         | no! e2 ↦ elim (is (eqb code 3)) [
-          | yes! e ↦ rw (eqb-true code 3 e) (refl, refl, refl, λ q. absurd (false≢true q), λ q. refl)
+          | yes! e ↦ rw (eqb-true code 3 e) (refl, refl, refl, refl, λ q. absurd (false≢true q), λ q. refl)
           | no! e3 ↦ elim (is (eqb code 4)) [
-            | yes! e ↦ rw (eqb-true code 4 e) (refl, refl, refl, λ q. absurd (false≢true q), λ q. refl)
+            | yes! e ↦ rw (eqb-true code 4 e) (refl, refl, refl, refl, λ q. absurd (false≢true q), λ q. refl)
             | no! e4 ↦ elim (is (eqb code 5)) [
               | yes! e ↦ rw (eqb-true code 5 e) (spent_row spent 5)
               | no! e5 ↦ elim (is (eqb code 6)) [
-                | yes! e ↦ rw (eqb-true code 6 e) (refl, refl, refl, λ q. inl refl, λ q. refl)
+                | yes! e ↦ rw (eqb-true code 6 e) (refl, refl, refl, refl, λ q. inl refl, λ q. refl)
                 | no! e6 ↦ elim (is (eqb code 7)) [
-                  | yes! e ↦ rw (eqb-true code 7 e) (refl, refl, refl, λ q. inr refl, λ q. refl)
+                  | yes! e ↦ rw (eqb-true code 7 e) (refl, refl, refl, refl, λ q. inr refl, λ q. refl)
                   | no! e7 ↦ elim (is (eqb code 8)) [
-                    | yes! e ↦ rw (eqb-true code 8 e) (refl, refl, refl, λ q. absurd (false≢true q), λ q. refl)
-                    | no! e8 ↦ rw (e1, e2, e3, e4, e5, e6, e7, e8) (refl, refl, refl, λ q. absurd (false≢true q), λ q. refl)
+                    | yes! e ↦ rw (eqb-true code 8 e) (refl, refl, refl, refl, λ q. absurd (false≢true q), λ q. refl)
+                    | no! e8 ↦ rw (e1, e2, e3, e4, e5, e6, e7, e8) (refl, refl, refl, refl, λ q. absurd (false≢true q), λ q. refl)
                   ]
                 ]
               ]
@@ -113,10 +113,11 @@ row spent code =
 table_says : (n code k : ℕ) → refusable (spent_by n) code k ≡ true → RefusedBy n code k
 unfolding refusable
 table_says n code k e =
-    let (pins, list, stop, unclean, unspent) = row (spent_by n) code in
+    let (pins, list, ungiven, stop, unclean, unspent) = row (spent_by n) code in
     record {
       pins = λ z. false≢true (sym pins ∙ (rw z at e));
       list = λ z. false≢true (sym list ∙ (rw z at e));
+      ungiven = λ z. false≢true (sym ungiven ∙ (rw z at e));
       stop = λ z. false≢true (sym stop ∙ (rw z at e));
       unclean = λ z. unclean (rw z at e);
       exhausted = λ z. elim (is (spent_by n)) [ yes! q ↦ leb-true MAX n q | no! q ↦ absurd (false≢true (sym (unspent q) ∙ (rw z at e))) ];

@@ -30,12 +30,13 @@ use Rattle.sheet_lines.specs.declared.Record.{Record}
 use Rattle.sheet_lines.specs.declared.Said.{Said}
 use Rattle.sheet_lines.specs.Record.{byte_at, in_range, fields_of, read_record}
 use Rattle.sheet_standing.specs.declared.Standing.{Standing}
-use Rattle.sheet_steps.specs.Standing.{start, afresh, with_state, place_at, lent_pins, lent_list, says}
+use Rattle.sheet_steps.specs.Standing.{start, afresh, holding, empty_places, with_state, place_at, lent_pins, lent_list, says}
 use Rattle.sheet_steps.specs.Steps.{say_new, step_new, say_access, access_of, step_access, say_done, say_token, step_publish, step_abort, say_found, step_lookup, say_removed, step_remove, say_pinned, step_pin, say_size, resize_of, step_resize, say_count, reclaim_of, step_reclaim, step_code, step_record, step}
 use Rattle.laws_table.proofs.FreshTable.{fresh_valid}
 use Rattle.laws_sheet.specs.Orderly.{InOrder, Orderly, unmade!, made!, Counted}
+use Rattle.laws_sheet.specs.Places.{token_of, put_in}
 use Rattle.laws_sheet.specs.Refusals.{refusable, sayable, spent_by, Fair}
-use Rattle.laws_sheet.proofs.PinsStand.{lent_length, list_length, lent_same, no_pins_lem}
+use Rattle.laws_sheet.proofs.PinsStand.{lent_length, list_length, lent_same, no_pins_lem, no_tokens}
 use Rattle.laws_sheet.proofs.CallsStand.{Leaves, pins_after, access_leaves, reclaim_leaves, publish_leaves, abort_leaves, lookup_leaves, remove_leaves, pin_leaves}
 use Rattle.laws_sheet.proofs.ResizeStands.{pins_moved, resize_leaves}
 
@@ -54,7 +55,7 @@ new_fair s n o k r =
         | no! q ↦ rw (e, q) (stays s n 1 (Said.Refused 2) o k refl)
         | yes! q ↦
             rw (e, q) (record {
-              orderly = made! refl (no_pins_lem (fresh c) (fresh_valid c (ltb-true 0 c (and_left (ltb 0 c) (leb c (2 ^ 62)) e)) (leb-true c 256 q)));
+              orderly = made! refl (no_pins_lem (fresh c) empty_places (fresh_valid c (ltb-true 0 c (and_left (ltb 0 c) (leb c (2 ^ 62)) e)) (leb-true c 256 q)) (no_tokens (fresh c)));
               counted = record { uses = omega arith; generations = omega arith };
               said = refl;
             })
@@ -63,7 +64,7 @@ new_fair s n o k r =
 
 -- ── what a call's answer says ──
 module _ (s : Standing) (st : s.stands ≡ true) (n : ℕ) where
-  say_access_lem : (place : ℕ) (u : State) (a : Try Given) → Leaves n 2 s.pins (record { table = u; answer = a }) → Fair n 2 (say_access s place u a)
+  say_access_lem : (place : ℕ) (u : State) (a : Try Given) → Leaves n 2 s.pins (put_in s.places place (token_of a)) (record { table = u; answer = a }) → Fair n 2 (say_access s place u a)
   unfolding say_access
   say_access_lem place u (ok (hit slot)) l = record { orderly = made! st l.order; counted = l.counted; said = refl }
   say_access_lem place u (ok in_progress) l = record { orderly = made! st l.order; counted = l.counted; said = refl }
@@ -72,40 +73,40 @@ module _ (s : Standing) (st : s.stands ≡ true) (n : ℕ) where
   say_access_lem place u (ok busy) l = record { orderly = made! st l.order; counted = l.counted; said = refl }
   say_access_lem place u (refuse m) l = record { orderly = made! st l.order; counted = l.counted; said = l.answer }
 
-  say_done_lem : (code : ℕ) (u : State) (a : Try Fine) → Leaves n code s.pins (record { table = u; answer = a }) → Fair n code (say_done (with_state s u) a)
+  say_done_lem : (code : ℕ) (u : State) (a : Try Fine) → Leaves n code s.pins s.places (record { table = u; answer = a }) → Fair n code (say_done (with_state s u) a)
   unfolding say_done
   say_done_lem code u (ok done) l = record { orderly = made! st l.order; counted = l.counted; said = refl }
   say_done_lem code u (refuse m) l = record { orderly = made! st l.order; counted = l.counted; said = l.answer }
 
-  say_token_lem : (code : ℕ) (call : LoadToken → After Fine) (p : Maybe LoadToken) → Fair n code (says s (Said.Refused STALE)) → ((k : LoadToken) → Leaves n code s.pins (call k)) → Fair n code (say_token s call p)
+  say_token_lem : (code : ℕ) (call : LoadToken → After Fine) (p : Maybe LoadToken) → Fair n code (says s (Said.Refused STALE)) → ((k : LoadToken) → p ≡ holding k → Leaves n code s.pins s.places (call k)) → Fair n code (say_token s call p)
   unfolding say_token
-  say_token_lem code call (Some k) stale l = say_done_lem code (call k).table (call k).answer (l k)
+  say_token_lem code call (Some k) stale l = say_done_lem code (call k).table (call k).answer (l k refl)
   say_token_lem code call None stale l = stale
 
-  say_found_lem : (u : State) (a : Try (Option ℕ)) → Leaves n 5 s.pins (record { table = u; answer = a }) → Fair n 5 (say_found (with_state s u) a)
+  say_found_lem : (u : State) (a : Try (Option ℕ)) → Leaves n 5 s.pins s.places (record { table = u; answer = a }) → Fair n 5 (say_found (with_state s u) a)
   unfolding say_found
   say_found_lem u (ok (some slot)) l = record { orderly = made! st l.order; counted = l.counted; said = refl }
   say_found_lem u (ok none) l = record { orderly = made! st l.order; counted = l.counted; said = refl }
   say_found_lem u (refuse m) l = record { orderly = made! st l.order; counted = l.counted; said = l.answer }
 
-  say_removed_lem : (u : State) (slot : ℕ) (a : Try Fine) → Leaves n 6 (pins_after s.pins slot 0 a) (record { table = u; answer = a }) → Fair n 6 (say_removed (with_state s u) slot a)
+  say_removed_lem : (u : State) (slot : ℕ) (a : Try Fine) → Leaves n 6 (pins_after s.pins slot 0 a) s.places (record { table = u; answer = a }) → Fair n 6 (say_removed (with_state s u) slot a)
   unfolding say_removed
   say_removed_lem u slot (ok done) l = record { orderly = made! st l.order; counted = l.counted; said = refl }
   say_removed_lem u slot (refuse m) l = record { orderly = made! st l.order; counted = l.counted; said = l.answer }
 
-  say_pinned_lem : (slot : ℕ) (pin : Bool) (a : Try Bool) → Leaves n 7 (pins_after s.pins slot (if pin then 1 else 0) a) (record { table = s.state; answer = a }) → Fair n 7 (say_pinned s slot pin a)
+  say_pinned_lem : (slot : ℕ) (pin : Bool) (a : Try Bool) → Leaves n 7 (pins_after s.pins slot (if pin then 1 else 0) a) s.places (record { table = s.state; answer = a }) → Fair n 7 (say_pinned s slot pin a)
   unfolding say_pinned
   say_pinned_lem slot pin (ok b) l = record { orderly = made! st l.order; counted = l.counted; said = refl }
   say_pinned_lem slot pin (refuse m) l = record { orderly = made! st l.order; counted = l.counted; said = l.answer }
 
-  say_size_lem : (u : State) (list : List ℕ) (a : Try Size) → Leaves n 8 (pins_moved s.pins list a) (record { table = u; answer = a }) → Fair n 8 (say_size s u list a)
+  say_size_lem : (u : State) (list : List ℕ) (a : Try Size) → Leaves n 8 (pins_moved s.pins list a) s.places (record { table = u; answer = a }) → Fair n 8 (say_size s u list a)
   unfolding say_size
   say_size_lem u list (ok unchanged) l = record { orderly = made! st l.order; counted = l.counted; said = refl }
   say_size_lem u list (ok busy_now) l = record { orderly = made! st l.order; counted = l.counted; said = refl }
   say_size_lem u list (ok (resized c)) l = record { orderly = made! st l.order; counted = l.counted; said = refl }
   say_size_lem u list (refuse m) l = record { orderly = made! st l.order; counted = l.counted; said = l.answer }
 
-  say_count_lem : (code : ℕ) (u : State) (count : ℕ) (a : Try Fine) → Leaves n code s.pins (record { table = u; answer = a }) → Fair n code (say_count (with_state s u) count a)
+  say_count_lem : (code : ℕ) (u : State) (count : ℕ) (a : Try Fine) → Leaves n code s.pins s.places (record { table = u; answer = a }) → Fair n code (say_count (with_state s u) count a)
   unfolding say_count
   say_count_lem code u count (ok done) l = record { orderly = made! st l.order; counted = l.counted; said = refl }
   say_count_lem code u count (refuse m) l = record { orderly = made! st l.order; counted = l.counted; said = l.answer }
@@ -115,50 +116,50 @@ bit_small : (pin : Bool) → (if pin then 1 else 0) ≤ 1
 bit_small true = omega arith
 bit_small false = omega arith
 
-module _ (s : Standing) (st : s.stands ≡ true) (n : ℕ) (g : InOrder s.state s.pins) (k : Counted n s.state) (r : Record) where
+module _ (s : Standing) (st : s.stands ≡ true) (n : ℕ) (g : InOrder s.state s.pins s.places) (k : Counted n s.state) (r : Record) where
   access_fair : Fair n 2 (step_access s r)
   unfolding step_access access_of
   access_fair =
       let t = s.state in
       let a = access t r.key r.allow (lent_pins s) in
-      say_access_lem s st n r.place a.table a.answer (access_leaves n t s.pins g k (lent_pins s) (lent_length s g) (lent_same s g) r.key r.allow)
+      say_access_lem s st n r.place a.table a.answer (access_leaves n t s.pins s.places g k (lent_pins s) (lent_length s g) (lent_same s g) r.place r.key r.allow)
 
   stale : (code : ℕ) → refusable (spent_by n) code STALE ≡ true → Fair n code (says s (Said.Refused STALE))
   stale code e = stays s n code (Said.Refused STALE) (made! st g) k e
 
   publish_fair : Fair n 3 (step_publish s r)
   unfolding step_publish refusable some?
-  publish_fair = say_token_lem s st n 3 (publish s.state) (place_at s r.place) (stale 3 refl) (publish_leaves n s.state s.pins g k)
+  publish_fair = say_token_lem s st n 3 (publish s.state) (place_at s r.place) (stale 3 refl) (λ t e. publish_leaves n s.state s.pins s.places g k t (g.given r.place t e))
 
   abort_fair : Fair n 4 (step_abort s r)
   unfolding step_abort refusable some?
-  abort_fair = say_token_lem s st n 4 (abort s.state) (place_at s r.place) (stale 4 refl) (abort_leaves n s.state s.pins g k)
+  abort_fair = say_token_lem s st n 4 (abort s.state) (place_at s r.place) (stale 4 refl) (λ t e. abort_leaves n s.state s.pins s.places g k t)
 
   lookup_fair : Fair n 5 (step_lookup s r)
   unfolding step_lookup
-  lookup_fair = let a = lookup s.state r.key in say_found_lem s st n a.table a.answer (lookup_leaves n s.state s.pins g k r.key)
+  lookup_fair = let a = lookup s.state r.key in say_found_lem s st n a.table a.answer (lookup_leaves n s.state s.pins s.places g k r.key)
 
   remove_fair : Fair n 6 (step_remove s r)
   unfolding step_remove
-  remove_fair = let a = remove s.state r.number in say_removed_lem s st n a.table r.number a.answer (remove_leaves n s.state s.pins g k r.number)
+  remove_fair = let a = remove s.state r.number in say_removed_lem s st n a.table r.number a.answer (remove_leaves n s.state s.pins s.places g k r.number)
 
   pin_fair : Fair n 7 (step_pin s r)
   unfolding step_pin
-  pin_fair = say_pinned_lem s st n r.number r.allow (need_clean s.state r.number) (pin_leaves n s.state s.pins g k r.number (if r.allow then 1 else 0) (bit_small r.allow))
+  pin_fair = say_pinned_lem s st n r.number r.allow (need_clean s.state r.number) (pin_leaves n s.state s.pins s.places g k r.number (if r.allow then 1 else 0) (bit_small r.allow))
 
   resize_fair : Fair n 8 (step_resize s r)
   unfolding step_resize resize_of
   resize_fair =
       let t = s.state in
       let a = resize t r.number (lent_pins s) (lent_list s) in
-      say_size_lem s st n a.table a.list a.answer (resize_leaves t s.pins g (lent_pins s) (lent_length s g) (lent_same s g) (lent_list s) (list_length s g) r.number n k)
+      say_size_lem s st n a.table a.list a.answer (resize_leaves t s.pins s.places g (lent_pins s) (lent_length s g) (lent_same s g) (lent_list s) (list_length s g) r.number n k)
 
   reclaim_fair : (code : ℕ) → Fair n code (step_reclaim s r)
   unfolding step_reclaim reclaim_of
   reclaim_fair code =
       let t = s.state in
       let a = reclaim t r.number (lent_pins s) in
-      say_count_lem s st n code a.table a.count a.answer (reclaim_leaves n t s.pins g k (lent_pins s) (lent_length s g) (lent_same s g) code r.number)
+      say_count_lem s st n code a.table a.count a.answer (reclaim_leaves n t s.pins s.places g k (lent_pins s) (lent_length s g) (lent_same s g) code r.number)
 
   code_fair : (code : ℕ) → Fair n code (step_code s r code)
   unfolding step_code

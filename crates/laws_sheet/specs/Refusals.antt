@@ -1,5 +1,5 @@
 -- SPDX-License-Identifier: Apache-2.0
--- The refusals that a record says, by its code: 3, 4 and 10 are none of them, 7 comes only where a number may be spent,
+-- The refusals that a record says, by its code: 3, 4, 9 and 10 are none of them, 7 comes only where a number may be spent,
 -- and 8 only where the record names a slot.
 use Rattle.std.specs.Prelude.{ℕ, ◌+◌, ◌≤◌, ◌≡◌, Bool, true, List, [], ◌∷◌, ◌⊎◌, eqb, leb, if◌then◌else◌}
 use Rattle.basics.specs.Lists.{some?}
@@ -14,7 +14,7 @@ abbrev pub refusals : Bool → ℕ → List ℕ
 refusals spent code =
     if eqb code 1 then INVALID ∷ ALLOCATION ∷ [] else
     if eqb code 2 then (if spent then EXHAUSTED ∷ [] else []) else
-    if eqb code 3 then STALE ∷ UNGIVEN ∷ [] else
+    if eqb code 3 then STALE ∷ [] else
     if eqb code 4 then STALE ∷ [] else
     if eqb code 5 then (if spent then EXHAUSTED ∷ [] else []) else
     if eqb code 6 then SLOT ∷ UNCLEAN ∷ [] else
@@ -52,11 +52,12 @@ pub record Fair (n code : ℕ) (a : Stepped) : Type 0 where
   pub counted : Counted (n + 1) a.standing.state
   pub said : sayable (spent_by n) code a.said ≡ true
 
--- what a refusal by k of the record n tells: k is not 3, 4 or 10; 8 comes only of a slot to remove or to pin, so never of a resize;
+-- what a refusal by k of the record n tells: k is not 3, 4, 9 or 10; 8 comes only of a slot to remove or to pin, so never of a resize;
 -- 7 does not come before the record 2^64 − 1
 pub record RefusedBy (n code k : ℕ) : Type 0 where
   pub pins : k ≡ PINS → ⊥
   pub list : k ≡ LIST → ⊥
+  pub ungiven : k ≡ UNGIVEN → ⊥
   pub stop : k ≡ STOP → ⊥
   pub unclean : k ≡ UNCLEAN → (code ≡ 6) ⊎ (code ≡ 7)
   pub exhausted : k ≡ EXHAUSTED → MAX ≤ n

@@ -16,6 +16,6 @@ pub data Shown (p : ℕ → Said → Bool) : ℕ → List ℕ → List ℕ → T
   line! : {n : ℕ} {bytes text : List ℕ} (said : Said) (clean loading : ℕ) → is_bad said ≡ false → p (byte_at bytes 0) said ≡ true
       → Shown p (n + 1) (drop 24 bytes) text → Shown p n bytes (line_of n said clean loading ++ text)
 
--- the claim: of at most 2^64 − 1 records each shows no refusal but those of its code, and none shows 3, 4, 7 or 10, which are in no row
+-- the claim: of at most 2^64 − 1 records each shows no refusal but those of its code, and none shows 3, 4, 7, 9 or 10, which are in no row
 abbrev pub RefusalsShown : Type 0
 RefusalsShown = (bytes : List ℕ) → length bytes ≤ 24 * MAX → Shown (sayable false) 0 bytes (run_sheet bytes)

@@ -15,7 +15,7 @@ use Rattle.key.specs.declared.CacheKey.{CacheKey}
 use Rattle.state.specs.declared.Slot.{Slot}
 use Rattle.state.specs.declared.State.{State}
 use Rattle.state.specs.Slots.{slot_at, vacant_slot, loading_slot, clean_slot, is_clean, occupied}
-use Rattle.laws_table.specs.Table.{Distinct, Dated, Valid, Absent, Step}
+use Rattle.laws_table.specs.Table.{Inv, Distinct, Dated, Valid, Absent, Step}
 use Rattle.laws_table.proofs.SlotKinds.{vacant_free, clean_occupied}
 
 -- ── one slot anew ──
@@ -26,6 +26,14 @@ slot_cases P ss x s hx a o y =
       | yes! e ↦ rw (eqb-true y x e, get_or-set_same ss x s vacant_slot hx) a
       | no! e ↦ rw (get_or-set_other ss x y s vacant_slot (eqb-false y x e)) (o y (eqb-false y x e))
     ]
+
+-- the same of a step
+module _ {t u : State} {x nu ng nc nl : ℕ} {s : Slot} (p : Step t u x s nu ng nc nl) where
+  pub step_here : Inv t → slot_at u x ≡ s
+  step_here v = rw p.slots (get_or-set_same t.slots x s vacant_slot (omega (arith, p.low, v.size, v.small)))
+
+  pub step_other : (y : ℕ) → (y ≡ x → ⊥) → slot_at u y ≡ slot_at t y
+  step_other y n = rw p.slots (get_or-set_other t.slots x y s vacant_slot n)
 
 -- no other slot holds the key of x
 abbrev pub Alone : List Slot → ℕ → ℕ → CacheKey → Type 0

@@ -1,6 +1,6 @@
 -- SPDX-License-Identifier: Apache-2.0
--- The claim fails of every machine of specs/Cheats.antt, each at a list of a few calls, but the last one where the counts are next to their
--- end. Assumes nothing.
+-- Demand 3 fails of every machine of specs/Cheats.antt, each at a list of a few calls, but the last one where the counts are next to their
+-- end; and what is accounted for fails of two of them. Assumes nothing.
 use Rattle.std.proofs.Common.{if◌then◌else◌}
 use Prim.Native.Nat.{ℕ, ◌+◌}
 use native.Mathlib.Omega.{arith}
@@ -16,15 +16,16 @@ use Rattle.basics.proofs.Tests.{yes!, no!, is}
 use Rattle.state.specs.declared.State.{State}
 use Rattle.state.specs.Answers.{Given, reserved, After}
 use Rattle.state.specs.Fresh.{fresh}
-use Rattle.ledger.specs.Calls.{Call, access, publish, resize, reclaim, rules, run, log}
+use Rattle.ledger.specs.Calls.{Call, access, publish, abort, resize, reclaim, rules, run, log}
 use Rattle.ledger.specs.Ledger.{Held, begin}
 use Rattle.ledger.specs.Claim.{Shown, nothing, loads, keeps, Demand3}
+use Rattle.ledger.specs.Conservation.{Conservation}
 use Rattle.ledger.specs.Opened.{opened}
 use Rattle.ledger.specs.Cheats.{busy_first, never_publishes, spares_oldest, untouched, refuses_all, ignores_pins, publishes_twice, over_reports}
-use Rattle.ledger.specs.Cheats.{resize_ignores_pins, loses_growing, changes_last_use, evicts_pinned, refuses_early, gives_last}
+use Rattle.ledger.specs.Cheats.{resize_ignores_pins, loses_growing, changes_last_use, begins_anew, evicts_pinned, refuses_early, gives_last}
 use Rattle.ledger.proofs.Samples.Premises.{meets_all, fair_all}
 use Rattle.ledger.proofs.Samples.Ends.{next_to_end}
-use Rattle.ledger.proofs.Samples.Words.{key, token, word, slot_in, word_fine}
+use Rattle.ledger.proofs.Samples.Words.{key, token, word, slot_in, generation_in, word_fine}
 
 -- "CapacityBusy before looking at stack or heap": the first access to a fresh table of 1 must reserve
 pub no_busy_first : Demand3 busy_first → ⊥
@@ -91,26 +92,39 @@ last_one (loads k) = 0
 last_one (keeps k n) = n
 
 -- the sum over the slots
-unfoldable total : (Shown → ℕ) → List Shown → ℕ
-total f [] = 0
-total f (s ∷ ss) = f s + total f ss
+unfoldable shown_sum : (Shown → ℕ) → List Shown → ℕ
+shown_sum f [] = 0
+shown_sum f (s ∷ ss) = f s + shown_sum f ss
 
 -- "a table handed back untouched": after a reservation a slot must show its key
 pub no_untouched : Demand3 untouched → ⊥
-unfolding opened meets_all total
+unfolding opened meets_all shown_sum
 no_untouched d =
     let cs : List Call = access (key 1) true (0 ∷ []) ∷ [] in
     let kept = d 1 (omega arith) (omega arith) cs (fair_all (begin 1) (log untouched (fresh 1) cs) refl) in
-    let z : ◌≡◌ {A = ℕ} 0 1 = ap (total shows_one) kept.holds.slots in omega arith
+    let z : ◌≡◌ {A = ℕ} 0 1 = ap (shown_sum shows_one) kept.holds.slots in omega arith
 
 -- "reclaim that removes one slot and reports its limit": the other slot must show nothing
 pub no_over_reports : Demand3 over_reports → ⊥
-unfolding opened meets_all total
+unfolding opened meets_all shown_sum
 no_over_reports d =
     let pins : List ℕ = 0 ∷ 0 ∷ [] in
     let cs : List Call = access (key 1) true pins ∷ publish (token 0 1 1 1) ∷ access (key 2) true pins ∷ publish (token 1 2 2 2) ∷ reclaim 2 pins ∷ [] in
     let kept = d 2 (omega arith) (omega arith) cs (fair_all (begin 2) (log over_reports (fresh 2) cs) refl) in
-    let z : ◌≡◌ {A = ℕ} 1 0 = ap (total shows_one) kept.holds.slots in omega arith
+    let z : ◌≡◌ {A = ℕ} 1 0 = ap (shown_sum shows_one) kept.holds.slots in omega arith
+
+-- ── what is accounted for ──
+-- a table handed back untouched: a reservation is outstanding, and no slot loads
+pub no_untouched_accounts : Conservation untouched → ⊥
+unfolding opened
+no_untouched_accounts d = let z : ◌≡◌ {A = ℕ} 1 0 = (d 1 (omega arith) (omega arith) (access (key 1) true (0 ∷ []) ∷ [])).outstanding in omega arith
+
+-- reclaim that removes one slot and reports its limit: one key was published, and two left
+pub no_over_reports_accounts : Conservation over_reports → ⊥
+unfolding opened
+no_over_reports_accounts d =
+    let cs : List Call = access (key 1) true (0 ∷ []) ∷ publish (token 0 1 1 1) ∷ reclaim 2 (0 ∷ []) ∷ [] in
+    let z : ◌≡◌ {A = ℕ} 1 2 = (d 1 (omega arith) (omega arith) cs).clean in omega arith
 
 -- ── over a resize ──
 -- the pins are not looked at: of two clean keys the pinned one, slot 0, is the older, and leaves
@@ -132,11 +146,20 @@ no_loses_growing d =
 
 -- a last use changes: the key must still show 1
 pub no_changes_last_use : Demand3 changes_last_use → ⊥
-unfolding opened meets_all total
+unfolding opened meets_all shown_sum
 no_changes_last_use d =
     let cs : List Call = access (key 1) true (0 ∷ []) ∷ publish (token 0 1 1 1) ∷ resize 2 (0 ∷ []) (7 ∷ []) ∷ [] in
     let kept = d 1 (omega arith) (omega arith) cs (fair_all (begin 1) (log changes_last_use (fresh 1) cs) refl) in
-    let z : ◌≡◌ {A = ℕ} 0 1 = ap (total last_one) kept.holds.slots in omega arith
+    let z : ◌≡◌ {A = ℕ} 0 1 = ap (shown_sum last_one) kept.holds.slots in omega arith
+
+-- the numbers begin again: the second reservation, after the emptied table shrank, must have generation 2
+pub no_begins_anew : Demand3 begins_anew → ⊥
+unfolding opened meets_all
+no_begins_anew d =
+    let cs : List Call = access (key 1) true (0 ∷ 0 ∷ []) ∷ abort (token 0 1 1 1) ∷ resize 1 (0 ∷ 0 ∷ []) (7 ∷ 7 ∷ []) ∷ [] in
+    let kept = d 2 (omega arith) (omega arith) cs (fair_all (begin 2) (log begins_anew (fresh 2) cs) refl) in
+    let (slot, low, vacant, e) = kept.next (access (key 1) true (0 ∷ [])) (record { token = tt; uses = omega arith; generations = omega arith }) in
+    let z : ◌≡◌ {A = ℕ} 1 2 = ap generation_in e in omega arith
 
 -- ── an access ──
 -- a pinned key is evicted while another is unpinned: of two clean keys slot 0 is the older and pinned, so slot 1 must go

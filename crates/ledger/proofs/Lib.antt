@@ -4,5 +4,6 @@ pub mod Relation
 pub mod Calls
 pub mod Demand3
 pub mod StaysValid
+pub mod Conservation
 pub mod Samples
 pub mod Cheats

@@ -4,7 +4,8 @@ pub mod Premises
 pub mod Words
 pub mod Hits
 pub mod Sizes
-pub mod Anew
+pub mod Carried
+pub mod Accounts
 pub mod Limits
 pub mod Ends
 pub mod Theorem

@@ -1,6 +1,6 @@
 -- SPDX-License-Identifier: Apache-2.0
 -- "These cheats are shut out": machines that cheat, each by one call or a few. That the claim fails of them is proved in proofs/Cheats.antt.
-use Rattle.std.specs.Prelude.{ℕ, Bool, false, List, map, ltb, eqb, set, if◌then◌else◌}
+use Rattle.std.specs.Prelude.{ℕ, Bool, false, ◌&&◌, List, map, ltb, eqb, set, if◌then◌else◌}
 use Rattle.basics.specs.Try.{Try, ok, refuse}
 use Rattle.basics.specs.Refusals.{STALE, EXHAUSTED, STOP}
 use Rattle.basics.specs.Numbers.{MAX}
@@ -11,6 +11,7 @@ use Rattle.state.specs.declared.State.{State}
 use Rattle.state.specs.declared.LoadToken.{LoadToken}
 use Rattle.state.specs.Slots.{slot_at}
 use Rattle.state.specs.Parts.{with_slot}
+use Rattle.state.specs.Fresh.{fresh}
 use Rattle.state.specs.Answers.{Given, hit, in_progress, reserved, evicted, busy, After}
 use Rattle.maintenance_resize.specs.Answers as Size
 use Rattle.maintenance_reclaim.specs.Answers.{Reclaiming}
@@ -145,6 +146,16 @@ abbrev pub changes_last_use : Machine
 changes_last_use = with_resize rules λ t asked pins list.
     let r : Size.Resizing = rules.resize t asked pins list in
     record { table = undated r.table (at r.table.eviction 0).slot; answer = r.answer; list = r.list }
+
+-- the numbers begin again: an emptied table made smaller is a fresh one, as the original makes it
+abbrev pub begins_anew : Machine
+begins_anew = with_resize rules λ t asked pins list.
+    let r : Size.Resizing = rules.resize t asked pins list in
+    record {
+      table = if eqb t.clean 0 && ltb r.table.capacity t.capacity then fresh r.table.capacity else r.table;
+      answer = r.answer;
+      list = r.list;
+    }
 
 -- ── an access ──
 -- one of two where a key goes, else the other

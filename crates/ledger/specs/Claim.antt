@@ -75,7 +75,7 @@ Allowed l (resized asked pins a list) = T (resize_keeps pins l (feed_resize l a 
 Allowed l (reclaimed limit pins a count slots) = Unit {0}
 
 -- ── the premises ──
--- a token shown is one that was given out, unaltered, in that list, and since the ledger began
+-- a token shown is one that was given out, unaltered, in that list
 abbrev pub TokenGiven : Ledger → Event → Type 0
 TokenGiven l (accessed key allow pins a) = Unit {0}
 TokenGiven l (published k a) = T (was_given l k)

@@ -80,7 +80,7 @@ unfoldable pub same_token : LoadToken → LoadToken → Bool
 same_token a b =
     eqb a.slot b.slot && eqb a.generation b.generation && same_key a.key b.key && eqb a.access_sequence b.access_sequence
 
--- the token was given out since the ledger began
+-- the token was given out in the list
 unfoldable pub was_given : Ledger → LoadToken → Bool
 was_given l k = some? (same_token k) l.given
 

@@ -4,5 +4,6 @@ pub mod Ledger
 pub mod Expect
 pub mod Claim
 pub mod Valid
+pub mod Conservation
 pub mod Opened
 pub mod Cheats

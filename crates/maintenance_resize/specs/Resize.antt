@@ -12,7 +12,7 @@ use Rattle.state.specs.Fresh.{fresh, sound}
 use Rattle.maintenance_resize.specs.Answers.{Size, unchanged, busy_now, resized, Resizing}
 use Rattle.maintenance_restore.specs.Pins.{pins_clean, raised}
 use Rattle.maintenance_restore.specs.Restore.{candidate}
-use Rattle.maintenance_resize.specs.Move.{remake}
+use Rattle.maintenance_resize.specs.Move.{inherit, remake}
 
 -- the table, the answer and the list
 abbrev pub listed : State → Size → List ℕ → Resizing
@@ -23,9 +23,9 @@ abbrev pub unless_refused : State → List ℕ → Try Resizing → Resizing
 unless_refused t list (ok r) = r
 unless_refused t list (refuse n) = record { table = t; answer = refuse n; list = list }
 
--- "No clean slot and shrinking: a fresh table, all counts 0."
+-- "No clean slot and shrinking: a fresh table"; document 02, request 7: "counts and counters carry over in that case too"
 unfoldable pub fresh_start : State → ℕ → Resizing
-fresh_start old c = listed (fresh c) (resized c) (replicate old.capacity NONE)
+fresh_start old c = listed (inherit (fresh c) old) (resized c) (replicate old.capacity NONE)
 
 -- "else Busy"
 unfoldable pub remake_or_busy : State → List ℕ → Option State → Try Resizing

@@ -27,7 +27,7 @@ pub enum Maintenance {
 }
 
 // From the raised capacity on.
-#[tactic(auto, using(basics::proofs::Tests::tests, maintenance_restore::proofs::Cases::few_tries), unfolding(crate::specs::Resize::resize_to, crate::specs::Resize::fresh_start, crate::specs::Resize::remake_or_busy, crate::specs::Cost::tries_to))]
+#[tactic(auto, using(basics::proofs::Tests::tests, maintenance_restore::proofs::Cases::few_tries), unfolding(crate::specs::Resize::resize_to, crate::specs::Resize::fresh_start, crate::specs::Move::inherit, crate::specs::Resize::remake_or_busy, crate::specs::Cost::tries_to))]
 fn resize_to(
     t: &mut State,
     pins: &[u8],
@@ -46,7 +46,9 @@ fn resize_to(
     }
     if t.clean == 0 && capacity < t.capacity {
         list.fill(basics::NONE);
-        *t = restore::fresh(capacity);
+        let mut new = restore::fresh(capacity);
+        remake::inherit(&mut new, t);
+        *t = new;
         return Ok(Maintenance::Resized(capacity));
     }
     let Some(new) = restore::candidate(t, pins, capacity < t.capacity, capacity, tries)? else {

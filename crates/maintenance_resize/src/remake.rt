@@ -106,9 +106,9 @@ fn move_rest(old: &mut State, new: &State, list: &mut [u16; 256]) -> Result<(), 
     Ok(())
 }
 
-// The Rust's `inherit_history`.
+// The Rust's `inherit_history`: "counts and counters carried over".
 #[tactic(auto, unfolding(crate::specs::Move::inherit))]
-fn inherit(new: &mut State, old: &State)
+pub(crate) fn inherit(new: &mut State, old: &State)
     ensures { new.new ≡ inherit_rule new.old old.now }
 {
     new.next_load_generation = old.next_load_generation;

@@ -40,10 +40,11 @@ pub enum Access {
 pub enum Maintained {
     Unchanged,
     Busy,
-    /// `overwritten`: the original moved two pages to one new slot, so that only the second is found there. `below`: the keys that were removed from
-    /// the old table take a kept length of it below 0.
+    /// `emptied`: the original took the old table for one without a key and made a fresh one. `overwritten`: it moved two pages to one new slot, so that only
+    /// the second is found there. `below`: the keys that were removed from the old table take a kept length of it below 0.
     Resized {
         capacity: usize,
+        emptied: bool,
         overwritten: bool,
         below: bool,
     },
@@ -236,7 +237,8 @@ impl Table {
             self.state = new.model;
             return answer;
         }
-        let removed = self.removed(&new, pins, &dropped.borrow());
+        let emptied = self.clean() == 0 && new.model.capacity() < self.capacity();
+        let removed = if emptied { Removed::default() } else { self.removed(&new, pins, &dropped.borrow()) };
         self.fill_list(&new, &removed, list);
         let mut pages = vec![NONE; list.len()];
         for (slot, page) in new.pages.iter().enumerate() {
@@ -253,17 +255,24 @@ impl Table {
         }
         let below = self.below();
         *self = Self::walked_anew(new.model);
-        Ok(Maintained::Resized { capacity, overwritten, below })
+        Ok(Maintained::Resized { capacity, emptied, overwritten, below })
     }
 
-    /// Which keys a resize that made a new table removed from the old one; none where an empty table was made anew.
+    /// The last generation and the last use number given, and the five counters.
+    pub fn numbers(&self) -> [u64; 7] {
+        self.state.numbers()
+    }
+
+    /// The original's `inherit_history`: these numbers of the old table.
+    pub fn inherit(&mut self, old: &Self) {
+        self.state.inherit_history(&old.state);
+    }
+
+    /// Which keys a resize that made a new table, and did not take the old one for one without a key, removed from the old one.
     /// `dropped` tells those removed to make room: its first pages are those that were overwritten while the keys of pinned slots were moved,
     /// the next ones are those removed to make room.
     fn removed(&self, new: &CacheState<Page>, pins: &[u8], dropped: &[usize]) -> Removed {
         let (old, new) = (&self.state, &new.model);
-        if old.clean() == 0 && new.capacity() < old.capacity() {
-            return Removed::default();
-        }
         let clean = || (0..old.capacity()).filter_map(|slot| Some((slot, old.clean_entry(slot)?.0)));
         let pinned: Vec<CacheKey> = clean().filter(|(slot, _)| pins[*slot] != 0).map(|(_, key)| key).collect();
         let keys: HashSet<CacheKey> = pinned.iter().copied().collect();

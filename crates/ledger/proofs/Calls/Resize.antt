@@ -6,35 +6,32 @@ use mathlib.Core.Path.{◌≡◌, refl, sym, ap, ◌∙◌}
 use mathlib.Core.Bool.{Bool, true, false, ◌&&◌, ◌||◌, false≢true}
 use mathlib.Core.List.{List}
 use lib.Dec.{ltb, eqb, T}
-use lib.ListN.{length, get_or, replicate}
-use borrow.Author.Tests.{not-true, eqb-true, eqb-false, ltb-true, lt-ltb, le-ltb, eq-eqb, ne_eqb}
-use Rattle.basics.specs.Try.{ok}
+use lib.ListN.{get_or}
+use borrow.Author.Tests.{not-true, eqb-false, ltb-true, eq-eqb, ne_eqb}
 use Rattle.basics.specs.Numbers.{NONE}
 use Rattle.basics.specs.Lists.{keep, every}
-use Rattle.basics.specs.Members.{In, here, there}
+use Rattle.basics.specs.Members.{In}
 use Rattle.basics.proofs.Tests.{yes!, no!, is}
-use Rattle.basics.proofs.Members.{in_none, in_map, map_in}
+use Rattle.basics.proofs.Members.{in_map, map_in}
 use Rattle.basics.proofs.Keeps.{in_keep, keep_in}
 use Rattle.key.specs.Key.{same_key}
 use Rattle.key.proofs.Keys.{same_key_lem}
 use Rattle.state.specs.declared.State.{State}
 use Rattle.state.specs.Slots.{slot_at, is_clean, occupied}
-use Rattle.state.specs.Fresh.{fresh}
-use Rattle.maintenance_resize.specs.Answers.{resized, Resizing}
-use Rattle.maintenance_restore.specs.Pins.{raised}
+use Rattle.maintenance_resize.specs.Answers.{Resizing}
 use Rattle.maintenance_resize.specs.Resize as rules
 use Rattle.laws_table.proofs.SlotKinds.{clean_occupied}
 use Rattle.laws_maintenance.specs.Remade.{kept!, lost!, Remade}
-use Rattle.laws_maintenance.specs.Resize.{refused!, unchanged!, busy!, emptied!, remade! }
+use Rattle.laws_maintenance.specs.Resize.{refused!, unchanged!, busy!, remade! }
 use Rattle.laws_maintenance.proofs.CalmTables.{none_loads, calm_clean}
+use Rattle.laws_maintenance.proofs.RemadeSlots.{Stayed, stayed}
 use Rattle.laws_maintenance.proofs.ResizeLaw.{resize_law}
-use Rattle.ledger.specs.Ledger.{Held, Ledger, begin, stays, moved_one, remakes, remakes_or_anew, feed_resize}
+use Rattle.ledger.specs.Ledger.{Held, Ledger, stays, moved_one, remakes, feed_resize}
 use Rattle.ledger.specs.Expect.{unpinned, same_use, present, resize_keeps}
 use Rattle.ledger.proofs.Keys.Lists.{some_in, every_in}
 use Rattle.ledger.proofs.Keys.Slots.{at, at_in, none_at}
 use Rattle.ledger.proofs.Relation.Orderly.{Orderly, orderly_remakes}
-use Rattle.ledger.proofs.Relation.Agree.{Agree, as_clean, as_loading, Fit, bare, full, agree_fresh, below, shows, clean_in, agree_valid}
-use Rattle.ledger.proofs.Relation.Counts.{held_count}
+use Rattle.ledger.proofs.Relation.Agree.{Agree, as_clean, as_loading, Fit, bare, full, below, shows, clean_in, agree_valid}
 
 -- ── keys that stay ──
 present_in : (l : Ledger) (h g : Held) → In g l.held → h.key ≡ g.key → h.last ≡ g.last → present l h ≡ true
@@ -92,19 +89,8 @@ module _ (t : State) (l : Ledger) (a : Agree t l) (pins : List ℕ) (z : Resizin
   stay_some h e = eqb-false (to h) NONE (not-true (eqb (to h) NONE) e)
 
   -- a key that stays is in the slot that the list gives it
-  record Stayed (h : Held) : Type 0 where
-    pub low : to h < n.capacity
-    pub clean : is_clean (slot_at n (to h)) ≡ true
-    pub key : (slot_at n (to h)).key ≡ h.key
-    pub last : (slot_at n (to h)).last_access ≡ h.last
-
-  stayed : (h : Held) → In h l.held → stay h ≡ true → Stayed h
-  stayed h i e =
-      let c = all_clean h i in
-      elim (k.places h.slot (below t l a h i) c.1) [
-        | kept! lt b d u ↦ record { low = lt; clean = b; key = d ∙ c.2; last = u ∙ c.3 }
-        | lost! b d p lt w ↦ absurd (stay_some h e b)
-      ]
+  moved_to : (h : Held) → In h l.held → stay h ≡ true → Stayed t pins z k h.slot
+  moved_to h i e = stayed t pins z k h.slot (below t l a h i) (all_clean h i).1 (stay_some h e)
 
   -- the new keys are the old ones that stay, moved
   is_new : (h : Held) → In h l.held → stay h ≡ true → In (moves h) new.held
@@ -117,8 +103,8 @@ module _ (t : State) (l : Ledger) (a : Agree t l) (pins : List ℕ) (z : Resizin
 
   orderly_new : Orderly new
   orderly_new = orderly_remakes l a.orderly n.capacity z.list
-      (λ h i e. (stayed h i e).low)
-      (λ h g i j e f q. sym (stayed h i e).key ∙ ap (λ (y : ℕ). (slot_at n y).key) q ∙ (stayed g j f).key)
+      (λ h i e. (moved_to h i e).low)
+      (λ h g i j e f q. sym (all_clean h i).2 ∙ sym (moved_to h i e).key ∙ ap (λ (y : ℕ). (slot_at n y).key) q ∙ (moved_to g j f).key ∙ (all_clean g j).2)
 
   fit_new : (x : ℕ) → x < n.capacity → Fit new x (slot_at n x) (at new.held x)
   unfolding moved_one
@@ -127,7 +113,7 @@ module _ (t : State) (l : Ledger) (a : Agree t l) (pins : List ℕ) (z : Resizin
         | no! c ↦ bare (none_at new.held x (λ g i e.
             let (h, j, s, q) = was g i in
             let p : to h ≡ x = ap (λ (y : Held). y.slot) (sym q) ∙ e in
-            false≢true (sym c ∙ ap (λ (y : ℕ). occupied (slot_at n y)) (sym p) ∙ clean_occupied (slot_at n (to h)) (stayed h j s).clean))) c
+            false≢true (sym c ∙ ap (λ (y : ℕ). occupied (slot_at n y)) (sym p) ∙ clean_occupied (slot_at n (to h)) (moved_to h j s).clean))) c
         | yes! c ↦
             let cc = calm_clean n k.calm.inv k.calm.quiet x hx c in
             let s = k.sources x hx cc in
@@ -169,38 +155,15 @@ module _ (t : State) (l : Ledger) (a : Agree t l) (pins : List ℕ) (z : Resizin
       ])
 
 -- ── resize ──
-no_member : (hs : List Held) (h : Held) → length hs ≡ 0 → In h hs → ⊥
-no_member hs h e here = omega arith
-no_member hs h e (there i) = omega arith
-
-and_false : (a b : Bool) → (a ≡ true → b ≡ false) → a && b ≡ false
-and_false true b f = f refl
-and_false false b f = refl
-
 -- the answer keeps what the claim asks, and table and ledger agree after
 pub record Kept (l : Ledger) (pins : List ℕ) (r : Resizing) : Type 0 where
   pub keeps : T (resize_keeps pins l (feed_resize l r.answer r.list))
   pub agrees : Agree r.table (feed_resize l r.answer r.list)
 
 module _ (t : State) (l : Ledger) (a : Agree t l) (pins : List ℕ) where
-  -- "Where no key is present and the capacity falls, the ledger begins anew."
-  anew : (c : ℕ) (list : List ℕ) → t.loading ≡ 0 → t.clean ≡ 0 → 0 < c → c < t.capacity → Kept l pins (record { table = fresh c; answer = ok (resized c); list = list })
-  unfolding feed_resize remakes_or_anew begin
-  anew c list q e pos lt =
-      let nh : length l.held ≡ 0 = omega (arith, held_count t l a) in
-      let begins : remakes_or_anew l c list ≡ begin c = rw (eq-eqb (length l.held) 0 nh, lt-ltb c l.capacity (omega (arith, a.capacity))) in
-      record {
-        keeps = rw begins (keeps_keys pins l (begin c) (λ h i w. absurd (no_member l.held h nh i)) (λ g i. in_none i) (λ w h i. absurd (no_member l.held h nh i)));
-        agrees = rw begins (agree_fresh c pos (omega (arith, a.inv.small)));
-      }
-
-  made : (z : Resizing) → Remade t pins z → (t.clean ≡ 0 → t.capacity < z.table.capacity) → Kept l pins z
-  unfolding feed_resize remakes_or_anew
-  made z k grows =
-      let c : ℕ = z.table.capacity in
-      let not_anew : eqb (length l.held) 0 && ltb c l.capacity ≡ false =
-      and_false (eqb (length l.held) 0) (ltb c l.capacity) (λ e. le-ltb c l.capacity (omega (arith, grows (omega (arith, eqb-true (length l.held) 0 e, held_count t l a)), a.capacity))) in
-      record { keeps = rw (k.answer, not_anew) (remade_keeps t l a pins z k); agrees = rw (k.answer, not_anew) (remade_agrees t l a pins z k) }
+  made : (z : Resizing) → Remade t pins z → Kept l pins z
+  unfolding feed_resize
+  made z k = record { keeps = rw (k.answer) (remade_keeps t l a pins z k); agrees = rw (k.answer) (remade_agrees t l a pins z k) }
 
   pub resize_agrees : (asked : ℕ) (list : List ℕ) → Kept l pins (rules.resize t asked pins list)
   unfolding feed_resize
@@ -209,6 +172,5 @@ module _ (t : State) (l : Ledger) (a : Agree t l) (pins : List ℕ) where
         | refused! n e q q7 ↦ rw e (record { keeps = keeps_same pins l; agrees = a })
         | unchanged! e w ↦ rw e (record { keeps = keeps_same pins l; agrees = a })
         | busy! e w ↦ rw e (record { keeps = keeps_same pins l; agrees = a })
-        | emptied! e q c pos lt ↦ rw e (anew (raised asked pins) (replicate t.capacity NONE) q c pos lt)
-        | remade! k c fit ↦ made (rules.resize t asked pins list) k (λ e. omega (arith, fit e))
+        | remade! k c ↦ made (rules.resize t asked pins list) k
       ]

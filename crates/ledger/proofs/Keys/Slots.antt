@@ -12,6 +12,7 @@ use Rattle.basics.specs.Members.{In}
 use Rattle.basics.proofs.Tests.{yes!, no!, is}
 use Rattle.basics.proofs.Maps.{put}
 use Rattle.basics.proofs.Keeps.{hits, fails, look}
+use Rattle.key.specs.declared.CacheKey.{CacheKey}
 use Rattle.key.specs.Key.{same_key}
 use Rattle.ledger.specs.Ledger.{Held, not_at, not_key}
 use Rattle.ledger.proofs.Keys.Lists.{keep_agree, first_in, alike, unlike, compared}
@@ -72,14 +73,19 @@ at_keep x n (h ∷ hs) =
       ])
     ]
 
--- taken out by its key is taken out by its slot
-pub not_key_lem : (hs : List Held) → Apart hs → (g : Held) → In g hs → not_key g.key hs ≡ keep (not_in_held g.slot) hs
+-- taken out by a key is taken out by a slot, where that slot and no other has the key
+pub not_key_lem : (hs : List Held) (k : CacheKey) (x : ℕ) → ((h : Held) → In h hs → h.key ≡ k → h.slot ≡ x) → ((h : Held) → In h hs → h.slot ≡ x → h.key ≡ k)
+    → not_key k hs ≡ keep (not_in_held x) hs
 unfolding not_key
-not_key_lem hs a g m =
-    keep_agree (λ (h : Held). not (same_key h.key g.key)) (not_in_held g.slot) hs (λ y n. elim (compared y.key g.key) [
-      | alike e q ↦ rw (e, eq-eqb y.slot g.slot (ap (λ (u : Held). u.slot) (one_key hs a y g n m q)))
-      | unlike e q ↦ rw (e, ne_eqb y.slot g.slot (λ (w : y.slot ≡ g.slot). q (ap (λ (u : Held). u.key) (one_slot hs a y g n m w))))
+not_key_lem hs k x to of =
+    keep_agree (λ (h : Held). not (same_key h.key k)) (not_in_held x) hs (λ h i. elim (compared h.key k) [
+      | alike e q ↦ rw (e, eq-eqb h.slot x (to h i q))
+      | unlike e q ↦ rw (e, ne_eqb h.slot x (λ w. q (of h i w)))
     ])
+
+pub not_key_apart : (hs : List Held) → Apart hs → (g : Held) → In g hs → not_key g.key hs ≡ keep (not_in_held g.slot) hs
+not_key_apart hs a g m =
+    not_key_lem hs g.key g.slot (λ h i q. ap (λ (u : Held). u.slot) (one_key hs a h g i m q)) (λ h i w. ap (λ (u : Held). u.key) (one_slot hs a h g i m w))
 
 -- ── a key changed, not moved ──
 abbrev each : (Held → Held) → Option Held → Option Held

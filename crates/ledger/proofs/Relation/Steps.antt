@@ -8,7 +8,6 @@ use mathlib.Core.Bool.{true, false, false≢true}
 use mathlib.Core.List.{List, [], ◌∷◌, map}
 use mathlib.Core.Option.{Option, none, some}
 use lib.Dec.{eqb}
-use lib.Seq.{get_or-set_same, get_or-set_other}
 use borrow.Author.Tests.{eqb-true, eqb-false, ne_eqb}
 use Rattle.basics.specs.Lists.{keep}
 use Rattle.basics.specs.Members.{In, here, there}
@@ -22,10 +21,11 @@ use Rattle.state.specs.declared.LoadToken.{LoadToken}
 use Rattle.state.specs.Slots.{slot_at, vacant_slot, loading_slot, clean_slot, is_loading, is_clean}
 use Rattle.laws_table.specs.Table.{Step}
 use Rattle.laws_table.proofs.SlotKinds.{vacant_free, clean_not_loading, loading_not_clean, loading_occupied}
+use Rattle.laws_table.proofs.ValidSteps.{step_here, step_other}
 use Rattle.laws_table.proofs.StepTokens.{Loads}
 use Rattle.ledger.specs.Ledger.{Held, Ledger, with_held, next_token, reserves, not_at, used_one, uses, ends, clean_one, not_key}
 use Rattle.ledger.proofs.Keys.Lists.{keep_all}
-use Rattle.ledger.proofs.Keys.Slots.{at, at_in, at_cons, not_in_held, not_at_lem, at_keep, not_key_lem, at_one}
+use Rattle.ledger.proofs.Keys.Slots.{at, at_in, at_cons, not_in_held, not_at_lem, at_keep, not_key_apart, at_one}
 use Rattle.ledger.proofs.Keys.Changes.{used_yes, used_no, used_slot, clean_yes, clean_no, clean_slot_lem}
 use Rattle.ledger.proofs.Relation.Orderly.{Orderly, orderly_keep, orderly_uses, orderly_aborted, orderly_published, orderly_reserves}
 use Rattle.ledger.proofs.Relation.Agree.{as_clean, as_loading, Fit, bare, full, Agree, held_in, clean_in}
@@ -43,20 +43,14 @@ abbrev LoadsIn : Slot → LoadToken → Type 0
 LoadsIn s k = (is_loading s ≡ true) × (s.key ≡ k.key) × (s.generation ≡ k.generation)
 
 module _ {t u : State} {l : Ledger} (a : Agree t l) {x nu ng nc nl : ℕ} {s : Slot} (p : Step t u x s nu ng nc nl) where
-  slot_here : slot_at u x ≡ s
-  slot_here = rw p.slots (get_or-set_same t.slots x s vacant_slot (omega (arith, p.low, a.inv.size, a.inv.small)))
-
-  slot_other : (n : ℕ) → (n ≡ x → ⊥) → slot_at u n ≡ slot_at t n
-  slot_other n ne = rw p.slots (get_or-set_other t.slots x n s vacant_slot ne)
-
   module _ (o : Option Held) (r : Ledger) (on : Others x l r) (ch : (n : ℕ) → at r.held n ≡ put x o (at l.held) n) (fx : Fit r x s o) where
     fit_anew : (n : ℕ) → n < u.capacity → Fit r n (slot_at u n) (at r.held n)
     fit_anew n hn =
         rw (ch n) (elim (is (eqb n x)) [
-          | yes! e ↦ rw (e, eqb-true n x e, slot_here) fx
+          | yes! e ↦ rw (e, eqb-true n x e, step_here p a.inv) fx
           | no! e ↦
               let ne : n ≡ x → ⊥ = eqb-false n x e in
-              rw (e, slot_other n ne) (elim (a.fit n (omega (arith, p.capacity))) [
+              rw (e, step_other p n ne) (elim (a.fit n (omega (arith, p.capacity))) [
                 | bare q z ↦ bare q z
                 | full h q w ↦ full h q (elim w [
                   | as_clean c e k d ↦ as_clean c e k d
@@ -71,12 +65,12 @@ module _ {t u : State} {l : Ledger} (a : Agree t l) {x nu ng nc nl : ℕ} {s : S
           | yes! e ↦
               let q : k.slot ≡ x = eqb-true k.slot x e in
               let w = st k i n q in
-              let same : slot_at u k.slot ≡ s = ap (slot_at u) q ∙ slot_here in
+              let same : slot_at u k.slot ≡ s = ap (slot_at u) q ∙ step_here p a.inv in
               record { low = omega (arith, p.low, p.capacity); loading = rw same w.0; key = rw same w.1; generation = rw same w.2 }
           | no! e ↦
               let ne : k.slot ≡ x → ⊥ = eqb-false k.slot x e in
               let w = a.still k (on.less k i ne) (λ y. n (on.later k y)) in
-              let same : slot_at u k.slot ≡ slot_at t k.slot = slot_other k.slot ne in
+              let same : slot_at u k.slot ≡ slot_at t k.slot = step_other p k.slot ne in
               record { low = omega (arith, w.low, p.capacity); loading = rw same w.loading; key = rw same w.key; generation = rw same w.generation }
         ]
 
@@ -161,7 +155,7 @@ module _ {t : State} {l : Ledger} (a : Agree t l) where
     agree_abort p =
         let w = ours in
         let hs : List Held = keep (not_in_held k.slot) l.held in
-        let q : not_key k.key l.held ≡ hs = ap (λ (y : CacheKey). not_key y l.held) (sym w.key) ∙ not_key_lem l.held a.orderly.apart w.held w.member ∙ ap (λ (y : ℕ). keep (not_in_held y) l.held) w.slot in
+        let q : not_key k.key l.held ≡ hs = ap (λ (y : CacheKey). not_key y l.held) (sym w.key) ∙ not_key_apart l.held a.orderly.apart w.held w.member ∙ ap (λ (y : ℕ). keep (not_in_held y) l.held) w.slot in
         rw q (agree_step a p none (ends l k hs) (end_others hs) (λ y. at_keep k.slot y l.held) (bare refl vacant_free) (orderly_aborted l a.orderly k i (not_in_held k.slot)) refl a.uses a.generations
         (λ y j z e. end_last y j z e))
 

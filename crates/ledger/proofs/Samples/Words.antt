@@ -45,6 +45,12 @@ slot_in (ok (evicted k)) = k.slot
 slot_in (ok busy) = 0
 slot_in (refuse n) = 0
 
+-- and the generation
+abbrev pub generation_in : Try Given → ℕ
+generation_in (ok (reserved k)) = k.generation
+generation_in (ok (evicted k)) = k.generation
+generation_in a = 0
+
 -- which word an answer of publish is
 abbrev pub word_fine : Try Fine → ℕ
 word_fine (ok done) = 0

@@ -66,6 +66,11 @@ impl State {
         self.next_access_sequence
     }
 
+    /// The numbers that `inherit_history` carries over.
+    pub(in crate::cache) fn numbers(&self) -> [u64; 7] {
+        [self.next_load_generation, self.next_access_sequence, self.hits, self.misses, self.evictions, self.in_progress, self.capacity_busy]
+    }
+
     pub(in crate::cache) fn key_of(&self, slot: usize) -> Option<CacheKey> {
         self.slots[slot].key()
     }
