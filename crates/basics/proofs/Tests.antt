@@ -3,11 +3,11 @@
 -- Assumes nothing.
 use Prim.Native.Nat.{ℕ, zero, suc, ◌+◌, ◌-◌, ◌≤◌, ◌<◌}
 use mathlib.Core.Path.{◌≡◌, refl, sym, ◌∙◌}
-use mathlib.Core.Bool.{Bool, true, false, ◌&&◌, false≢true}
+use mathlib.Core.Bool.{Bool, true, false, not, ◌&&◌, false≢true}
 use mathlib.Core.Option.{Option, none, some}
 use native.Mathlib.Omega.{arith}
 use lib.Dec.{ltb}
-use borrow.Author.Tests.{lt-ltb, le-ltb, le-leb, lt-leb, eq-eqb, ne_eqb}
+use borrow.Author.Tests.{lt-ltb, le-ltb, le-leb, lt-leb, eq-eqb, ne_eqb, not-true, not-false}
 use Rattle.basics.specs.Try.{Try, ok, refuse, ◌>>=◌, ◌>>◌, need}
 
 -- a Bool with what it is known to be
@@ -45,7 +45,13 @@ some_ltb (suc n) ne = lt-ltb 0 (suc n) (omega arith)
 -- what a branch knows, as the tests that a rule makes: `search tests` closes most returns
 pub ruleset tests = (lt-ltb, le-ltb, le-leb, lt-leb, eq-eqb, ne_eqb, no_ltb, some_ltb)
 
--- a flag that a call handed back
+-- a flag that a call handed back, tested by `!` or as it is
+pub yes : {r s : Bool} → r ≡ s → not r ≡ false → s ≡ true
+yes {r} e n = sym e ∙ not-false r n
+
+pub no : {r s : Bool} → r ≡ s → not r ≡ true → s ≡ false
+no {r} e n = sym e ∙ not-true r n
+
 pub flag : {r s b : Bool} → r ≡ s → r ≡ b → s ≡ b
 flag e n = sym e ∙ n
 

@@ -3,7 +3,7 @@
 // oracle/README.md has the forms. `as usize`, `as u16`: there is no `From` of u64 or usize for these, and `try_from` could fail.
 #![tactic(auto)]
 
-ghost use Rattle.std.specs.Prelude.{◌≡◌, ◌+◌, ◌≤◌, min, length, IfOk};
+ghost use Rattle.std.specs.Prelude.{◌≡◌, ◌+◌, ◌≤◌, min, length, MatchResult};
 ghost use Rattle.cases.specs.Places.{Within};
 ghost use Rattle.cases.specs.Bytes.{FAR as farthest, byte_at, low, numbers_at, key_at, call_at};
 ghost use Rattle.picture_numbers.specs.Wrote.{SameList};
@@ -38,16 +38,16 @@ pub struct Table {
 
 // The bytes from `at` to `have` wait.
 #[derive(Clone, Copy)]
-struct Waiting {
-    at: usize,
-    have: usize,
+pub struct Waiting {
+    pub at: usize,
+    pub have: usize,
 }
 
 // The bytes of a call.
 pub const CALL: usize = 47;
 
 // A page is written out before this many bytes stand in it. A case's text is shorter than the rest of it.
-const FULL: usize = 131072;
+pub const FULL: usize = 131072;
 
 // Past the end of any bytes that are read here.
 const FAR: usize = 1048576;
@@ -285,19 +285,19 @@ fn put_word(page: &mut Page, word: &[u8], more: usize)
     page.put(more);
 }
 
-// `why` stays the number of a refusal: a `Refusal` would be a narrower argument of a public function.
+// `why` stays the number of a refusal, and below it is whatever tells one: a `Refusal` would be a narrower argument of a public function.
 pub fn put_refused(page: &mut Page, why: u8, more: usize)
     ensures { Within page.old page.new }
 {
     put_numbered(page, b"refused", usize::from(why), more);
 }
 
-pub fn put_done(page: &mut Page, answer: Result<(), Refusal>)
+pub fn put_done<W: Into<u8>>(page: &mut Page, answer: Result<(), W>)
     ensures { Within page.old page.new }
 {
     match answer {
         Ok(()) => put_word(page, b"done", 0),
-        Err(why) => put_refused(page, u8::from(why), 0),
+        Err(why) => put_refused(page, why.into(), 0),
     }
 }
 
@@ -344,7 +344,7 @@ fn put_token(page: &mut Page, word: &[u8], token: LoadToken)
     page.put(token.access_sequence);
 }
 
-pub fn put_access(page: &mut Page, answer: Result<Access, Refusal>)
+pub fn put_access<W: Into<u8>>(page: &mut Page, answer: Result<Access, W>)
     ensures { Within page.old page.new }
 {
     match answer {
@@ -353,26 +353,26 @@ pub fn put_access(page: &mut Page, answer: Result<Access, Refusal>)
         Ok(Access::Reserved(token)) => put_token(page, b"reserved", token),
         Ok(Access::Evicted(token)) => put_token(page, b"evicted", token),
         Ok(Access::CapacityBusy) => put_word(page, b"busy", 0),
-        Err(why) => put_refused(page, u8::from(why), 0),
+        Err(why) => put_refused(page, why.into(), 0),
     }
 }
 
 // The answer of resize; `places` is how many more numbers follow.
-pub fn put_maintenance(page: &mut Page, answer: Result<Maintenance, Refusal>, places: usize)
+pub fn put_maintenance<W: Into<u8>>(page: &mut Page, answer: Result<Maintenance, W>, places: usize)
     ensures { Within page.old page.new }
 {
     match answer {
         Ok(Maintenance::Unchanged) => put_word(page, b"unchanged", places),
         Ok(Maintenance::Busy) => put_word(page, b"busy", places),
         Ok(Maintenance::Resized(capacity)) => put_numbered(page, b"resized", capacity, places),
-        Err(why) => put_refused(page, u8::from(why), places),
+        Err(why) => put_refused(page, why.into(), places),
     }
 }
 
 // resize: the answer, and the list after the call, which is lent as long as asked.
-pub fn put_resized(
+pub fn put_resized<W: Into<u8>>(
     page: &mut Page,
-    answer: Result<Maintenance, Refusal>,
+    answer: Result<Maintenance, W>,
     list: &[u16],
     places: usize,
 )
@@ -465,9 +465,14 @@ pub fn put_state(page: &mut Page, t: &State)
     page.put_text(b"\n");
 }
 
-// The bytes that wait, with more read behind them, at the front, where a whole case may not be among them.
-fn wait<R: Input + Eprint>(rt: &R, bytes: &mut [u8], waiting: Waiting) -> Result<Waiting, Failed>
-    ensures at_le_have { IfOk result (λ w. (w.at ≤ w.have) × (w.have ≤ length bytes.old)) }
+// The bytes that wait, with more read behind them, at the front, where a whole case may not be among them. A read that failed hands them back too.
+pub fn wait<R: Input + Eprint>(
+    rt: &R,
+    bytes: &mut [u8],
+    waiting: Waiting,
+) -> Result<Waiting, Waiting>
+    ensures at_le_have { MatchResult result
+        (λ w. (w.at ≤ w.have) × (w.have ≤ length bytes.old)) (λ w. (w.at ≤ w.have) × (w.have ≤ length bytes.old)) }
     ensures bytes_len_unchanged { length bytes.new ≡ length bytes.old }
 {
     let have = waiting.have.min(bytes.len());
@@ -477,11 +482,16 @@ fn wait<R: Input + Eprint>(rt: &R, bytes: &mut [u8], waiting: Waiting) -> Result
     }
     bytes.copy_within(at..have, 0);
     let to = have - at;
-    let count = streams::read_block(rt, &mut bytes[to..])?;
-    Ok(Waiting {
-        at: 0,
-        have: to + count,
-    })
+    match streams::read_block(rt, &mut bytes[to..]) {
+        Ok(count) => Ok(Waiting {
+            at: 0,
+            have: to + count,
+        }),
+        Err(failed) => Err(Waiting {
+            at: 0,
+            have: to + failed.count,
+        }),
+    }
 }
 
 // All cases, each by its number and the bytes that it begins: `take_case` writes its line and tells how many of the bytes it has, or that there is none. What

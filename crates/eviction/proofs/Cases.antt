@@ -30,13 +30,24 @@ victim_end zero c h pins i l = refl
 victim_end (suc n) c h pins i l =
     elim (is (leb h.len i)) [ yes! e ↦ rw e | no! e ↦ let s : i < h.len = leb-false h.len i e in absurd (omega (arith, l s)) ]
 
-pub victim_step : (places c : ℕ) (h : EvictionHeap) (pins : List ℕ) (i : ℕ) → i < places → i < h.len
+pub victim_step : (n c : ℕ) (h : EvictionHeap) (pins : List ℕ) (i : ℕ) → 0 < n
+    → victim_from n c h pins i
+    ≡ (if leb h.len i then ok none else
+    if leb c (at h i).slot then refuse STOP else
+    if unpinned pins (at h i).slot then ok (some (at h i).slot) else
+    victim_from (n - 1) c h pins (i + 1))
+unfolding victim_from
+victim_step zero c h pins i l = absurd (omega arith)
+victim_step (suc n) c h pins i l = let e : suc n - 1 ≡ n = omega arith in rw e
+
+-- the same at a place of the loop, which counts up
+pub victim_place : (places c : ℕ) (h : EvictionHeap) (pins : List ℕ) (i : ℕ) → i < places → i < h.len
     → victim_from (places - i) c h pins i
     ≡ (if leb c (at h i).slot then refuse STOP else
     if unpinned pins (at h i).slot then ok (some (at h i).slot) else
     victim_from (places - (i + 1)) c h pins (i + 1))
 unfolding victim_from
-victim_step places c h pins i n l = rw (left_suc places i n, lt-leb h.len i l)
+victim_place places c h pins i n l = rw (left_suc places i n, lt-leb h.len i l)
 
 -- what it finds is a slot of the table
 found_below : (n c : ℕ) (h : EvictionHeap) (pins : List ℕ) (i : ℕ) {s : ℕ} → victim_from n c h pins i ≡ ok (some s) → s < c

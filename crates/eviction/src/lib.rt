@@ -57,8 +57,9 @@ impl EvictionHeap {
     {
         basics::check_capacity(capacity)?;
         Ok(EvictionHeap {
+            entries: [Entry::default(); MAX_CAPACITY],
+            len: 0,
             positions: basics::unset(capacity),
-            ..EvictionHeap::none()
         })
     }
 
@@ -92,7 +93,7 @@ impl EvictionHeap {
     }
 
     // The first unpinned slot among the first heap places: the victim search of access and of reclaim.
-    #[tactic(auto, using(basics::proofs::Tests::tests, crate::proofs::Cases::victim_step, crate::proofs::Cases::victim_end, crate::proofs::Cases::taken), unfolding(crate::specs::Victim::victim_of, crate::specs::Entries::sized))]
+    #[tactic(auto, using(basics::proofs::Tests::tests, crate::proofs::Cases::victim_place, crate::proofs::Cases::victim_end, crate::proofs::Cases::taken), unfolding(crate::specs::Victim::victim_of, crate::specs::Entries::sized))]
     pub fn victim(
         &self,
         capacity: usize,

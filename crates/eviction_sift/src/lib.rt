@@ -12,7 +12,7 @@ ghost use Rattle.eviction.specs.Heap.{insert_heap, place_of as place_rule, touch
 
 use basics::{NONE, Refusal};
 use eviction::{Entry, EvictionHeap};
-use eviction_swaps::{sift_down, sift_up, up_to};
+use eviction_swaps::{sift_down_in_place, sift_up_in_place, up_to};
 
 // The slot goes in at the end, and up from there.
 #[tactic(auto, using(basics::proofs::Tests::tests), unfolding(eviction::specs::Heap::insert_heap, eviction::specs::Entries::sized))]
@@ -35,7 +35,7 @@ pub fn insert(
     };
     heap.positions[slot] = end as u16;
     heap.len = end + 1;
-    sift_up(&mut heap, capacity, end)?;
+    sift_up_in_place(&mut heap, capacity, end)?;
     Ok(heap)
 }
 
@@ -74,7 +74,7 @@ pub fn touch(
         last_access,
         slot: slot as u16,
     };
-    sift_down(&mut heap, capacity, place)?;
+    sift_down_in_place(&mut heap, capacity, place)?;
     Ok(heap)
 }
 
@@ -99,9 +99,9 @@ pub fn remove(mut heap: EvictionHeap, capacity: usize, slot: usize) -> Result<Ev
     heap.entries[place] = last;
     heap.positions[moved] = place as u16;
     if up_to(&heap, place) == place {
-        sift_down(&mut heap, capacity, place)?;
+        sift_down_in_place(&mut heap, capacity, place)?;
     } else {
-        sift_up(&mut heap, capacity, place)?;
+        sift_up_in_place(&mut heap, capacity, place)?;
     }
     Ok(heap)
 }

@@ -1,14 +1,14 @@
 -- SPDX-License-Identifier: Apache-2.0
 -- What the proofs of the sifts share: no entry is older than itself, and a sift one step on. Assumes nothing.
 use Rattle.std.proofs.Common.{if◌then◌else◌}
-use Prim.Native.Nat.{ℕ, ◌+◌, ◌-◌, ◌≤◌, ◌<◌}
-use mathlib.Core.Path.{◌≡◌}
+use Prim.Native.Nat.{ℕ, zero, suc, ◌+◌, ◌-◌, ◌≤◌, ◌<◌}
+use mathlib.Core.Path.{◌≡◌, refl}
 use mathlib.Core.Bool.{false}
 use native.Mathlib.Omega.{arith}
 use lib.Dec.{eqb}
 use borrow.Author.Tests.{le-ltb}
 use Rattle.basics.specs.Try.{ok, ◌>>=◌}
-use Rattle.basics.proofs.Tests.{left_suc, left_none}
+use Rattle.basics.proofs.Tests.{left_suc}
 use Rattle.eviction.specs.declared.Entry.{Entry}
 use Rattle.eviction.specs.declared.EvictionHeap.{EvictionHeap}
 use Rattle.eviction.specs.Entries.{older}
@@ -19,9 +19,10 @@ unfolding older
 older_self e = rw (le-ltb e.last_access e.last_access (omega arith), le-ltb e.slot e.slot (omega arith))
 
 -- a sift at its end, and one step on
-pub sift_end : (next : EvictionHeap → ℕ → ℕ) (i c : ℕ) (h : EvictionHeap) (p : ℕ) → 256 ≤ i → sift_from next (256 - i) c h p ≡ ok h
+pub sift_end : (next : EvictionHeap → ℕ → ℕ) (n c : ℕ) (h : EvictionHeap) (p : ℕ) → n ≤ 0 → sift_from next n c h p ≡ ok h
 unfolding sift_from
-sift_end next i c h p l = rw (left_none 256 i l)
+sift_end next zero c h p l = refl
+sift_end next (suc n) c h p l = absurd (omega arith)
 
 pub sift_step : (next : EvictionHeap → ℕ → ℕ) (i c : ℕ) (h : EvictionHeap) (p : ℕ) → i < 256
     → sift_from next (256 - i) c h p

@@ -2,12 +2,12 @@
 // SPDX-License-Identifier: Apache-2.0
 // Ported from src/fs/cache/state/eviction.rs of HypeR-Proj/kernel at 53afd06a1d, changed; see NOTICE.
 
-// state/eviction.rs, the sifts: an entry of the heap moved up or down by swaps, in place. They are parts of the heap's calls (crate eviction_sift),
-// which meet what the sifts require, and drop the heap of a sift that is refused.
+// state/eviction.rs, the sifts: an entry of the heap moved up or down by swaps, by value or in place. They are parts of the heap's calls (crate
+// eviction_sift), which meet what the sifts require, work in place to copy no heap, and drop the heap of a sift that is refused.
 #![tactic(auto)]
 
 ghost use Rattle.std.specs.Prelude.{◌≡◌, ◌+◌, ◌*◌, ◌≤◌, ◌<◌};
-ghost use Rattle.basics.specs.Answers.{tried};
+ghost use Rattle.basics.specs.Answers.{answer, tried};
 ghost use Rattle.eviction_swaps.specs.Step.{Callable, Within, Follows};
 ghost use Rattle.eviction.specs.Sift.{swapped, sift_from, sift_up as sift_up_rule, sift_down as sift_down_rule};
 ghost use Rattle.eviction.specs.Sift.{up_to as up_rule, child_of as child_rule, down_to as down_rule};
@@ -108,16 +108,52 @@ fn sift<F: Fn(&EvictionHeap, usize) -> usize>(
     Ok(())
 }
 
-pub fn sift_up(heap: &mut EvictionHeap, capacity: usize, start: usize) -> Result<(), Refusal>
+// Where this is refused, the heap is one between two swaps.
+pub fn sift_up_in_place(
+    heap: &mut EvictionHeap,
+    capacity: usize,
+    start: usize,
+) -> Result<(), Refusal>
     requires { (capacity ≤ 256) × (start < 256) }
     ensures { tried heap.new result ≡ sift_up_rule capacity heap.old start }
 {
     sift(heap, capacity, start, up_to)
 }
 
-pub fn sift_down(heap: &mut EvictionHeap, capacity: usize, start: usize) -> Result<(), Refusal>
+// As for sift_up_in_place, a refused heap is one between two swaps.
+pub fn sift_down_in_place(
+    heap: &mut EvictionHeap,
+    capacity: usize,
+    start: usize,
+) -> Result<(), Refusal>
     requires { (capacity ≤ 256) × ((start < 256) × (heap.old.len ≤ 256)) }
     ensures { tried heap.new result ≡ sift_down_rule capacity heap.old start }
 {
     sift(heap, capacity, start, down_to)
+}
+
+// By value: where this is refused, the caller has the heap that it passed.
+pub fn sift_up(
+    mut heap: EvictionHeap,
+    capacity: usize,
+    start: usize,
+) -> Result<EvictionHeap, Refusal>
+    requires { (capacity ≤ 256) × (start < 256) }
+    ensures { answer result ≡ sift_up_rule capacity heap start }
+{
+    sift_up_in_place(&mut heap, capacity, start)?;
+    Ok(heap)
+}
+
+// As for sift_up, the caller of a refused one has its own heap.
+pub fn sift_down(
+    mut heap: EvictionHeap,
+    capacity: usize,
+    start: usize,
+) -> Result<EvictionHeap, Refusal>
+    requires { (capacity ≤ 256) × ((start < 256) × (heap.len ≤ 256)) }
+    ensures { answer result ≡ sift_down_rule capacity heap start }
+{
+    sift_down_in_place(&mut heap, capacity, start)?;
+    Ok(heap)
 }

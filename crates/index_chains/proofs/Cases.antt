@@ -22,12 +22,18 @@ pub room_left : (c : ℕ) (ix : Index) (key : CacheKey) → ok true ≡ can_inse
 unfolding can_insert
 room_left c ix key e = ltb-true (length_of ix key) CHAIN (ok_same (met (sized c ix) STOP (ok (ltb (length_of ix key) CHAIN)) true (sym e)).1)
 
--- the walk, one step on and at its end
-pub remove_step : (steps c : ℕ) (ix : Index) (b target p s i : ℕ) → i < steps
+-- the walk, one step on; the same at a step of the loop, which counts up; and at its end
+pub remove_step : (n c : ℕ) (ix : Index) (b target p s : ℕ) → 0 < n
+    → remove_from n c ix b target p s ≡ (if leb c s then refuse STOP else if eqb s target then ok (unlinked ix b p s) else remove_from (n - 1) c ix b target s (next_of ix s))
+unfolding remove_from
+remove_step zero c ix b target p s l = absurd (omega arith)
+remove_step (suc n) c ix b target p s l = let e : suc n - 1 ≡ n = omega arith in rw e
+
+pub remove_place : (steps c : ℕ) (ix : Index) (b target p s i : ℕ) → i < steps
     → remove_from (steps - i) c ix b target p s
     ≡ (if leb c s then refuse STOP else if eqb s target then ok (unlinked ix b p s) else remove_from (steps - (i + 1)) c ix b target s (next_of ix s))
 unfolding remove_from
-remove_step steps c ix b target p s i l = rw (left_suc steps i l)
+remove_place steps c ix b target p s i l = rw (left_suc steps i l)
 
 pub remove_end : (n c : ℕ) (ix : Index) (b target p s : ℕ) → n ≤ 0 → remove_from n c ix b target p s ≡ refuse STOP
 unfolding remove_from

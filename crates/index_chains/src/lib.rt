@@ -56,7 +56,7 @@ pub fn insert(
 
 // Takes a slot out of the key's chain. One walk for this and that of state_search would be no plainer: each ends at a slot of its own and by a rule of
 // its own, and only this one keeps the place before.
-#[tactic(auto, using(basics::proofs::Tests::tests, key::proofs::Buckets::bucket_low, crate::proofs::Cases::remove_step, crate::proofs::Cases::remove_end), unfolding(index::specs::Chain::remove_index, index::specs::Chain::unlinked))]
+#[tactic(auto, using(basics::proofs::Tests::tests, key::proofs::Buckets::bucket_low, crate::proofs::Cases::remove_place, crate::proofs::Cases::remove_end), unfolding(index::specs::Chain::remove_index, index::specs::Chain::unlinked))]
 pub fn remove(
     mut index: Index,
     capacity: usize,

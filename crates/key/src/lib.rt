@@ -21,6 +21,7 @@ pub struct CacheKey {
 
 impl CacheKey {
     // The Rust's `==`.
+    #[tactic(auto, using(basics::proofs::Tests::tests, crate::proofs::Keys::all_three), unfolding(crate::specs::Key::same_key))]
     pub fn same(self, other: CacheKey) -> bool
         ensures { result ≡ same_key self other }
     {

@@ -26,6 +26,7 @@ use Rattle.state.specs.Find.{ended}
 use Rattle.state.specs.Remove.{detach_clean, remove_clean}
 use Rattle.state.specs.Reads.{peek_from, peek_clean}
 use Rattle.state.proofs.Cases.{sound_sizes_lem, ended_no_slot}
+use Rattle.state_remove.proofs.Kept.{detach_keeps, remove_keeps}
 use Rattle.maintenance_restore.specs.Answers.{restored}
 use Rattle.maintenance_restore.specs.Restore.{restore}
 use Rattle.std.specs.Prelude.{Ok}
@@ -37,7 +38,7 @@ use lib.Seq.{take-set-lt, get_or-take}
 
 -- ---- a step for each slot
 
-each_end : {A : Type 0} (step : ℕ → A → Try A) (c slot : ℕ) (a : A) → c ≤ slot → each_slot step (c - slot) slot a ≡ ok a
+pub each_end : {A : Type 0} (step : ℕ → A → Try A) (c slot : ℕ) (a : A) → c ≤ slot → each_slot step (c - slot) slot a ≡ ok a
 unfolding each_slot
 each_end step c slot a l = rw (left_none c slot l)
 
@@ -235,3 +236,11 @@ module _ (k i : ℕ) (old made : State) (list : List ℕ) where
 
       pub drop_on : {u : State} → ok u ≡ remove_clean old (at old.eviction 0).slot → drop_oldest (k - i) (moving_of old made list) ≡ drop_oldest (k - (i + 1)) (moving_of u made list)
       drop_on r = drop_step k i old made list l ∙ rw (lt-leb old.clean (made.capacity - made.clean) h, some_ltb old.eviction.len z, ← r)
+
+-- ---- a sound table stays sound as a clean key leaves it
+module _ (old : State) (slot : ℕ) (y : sound old ≡ true) {u : State} where
+  pub leave_sound : ok u ≡ detach_clean old slot → sound u ≡ true
+  leave_sound e = (detach_keeps old slot y (sym e)).0
+
+  pub drop_sound : ok u ≡ remove_clean old slot → sound u ≡ true
+  drop_sound e = (remove_keeps old slot y (sym e)).0

@@ -7,9 +7,10 @@
 // them go by slot number, since they change the table whose slots they go over. All require a capacity of at most 256, which resize has tested (crate
 // state_remove says why no type holds that).
 // Each `as u16` is proved to lose nothing; `try_from` could fail.
-ghost use Rattle.std.specs.Prelude.{◌≡◌, List, ℕ, ◌+◌, ◌≤◌, take, length, IfOk};
+ghost use Rattle.std.specs.Prelude.{◌≡◌, true, List, ℕ, ◌+◌, ◌≤◌, take, length, IfOk};
 ghost use Rattle.basics.specs.Lists.{each_slot};
 ghost use Rattle.basics.specs.Answers.{tried};
+ghost use Rattle.state.specs.Fresh.{sound};
 ghost use Rattle.maintenance_resize.specs.Answers.{maintained_after};
 ghost use Rattle.maintenance_resize.specs.Resize.{unless_refused};
 ghost use Rattle.maintenance_resize.specs.Move.{moving_of, leave_pinned, drop_oldest, restore_rest, move_rest, inherit as inherit_rule, remake as remake_rule};
@@ -22,12 +23,13 @@ use maintenance_restore::restore::restore;
 use state::State;
 
 // The keys that the new table has leave the old one. The list says where they are.
-#[tactic(auto, using(crate::proofs::Moves::peek_low, crate::proofs::Moves::leave_unclean, crate::proofs::Moves::leave_refused, crate::proofs::Moves::leave_absent, crate::proofs::Moves::leave_stops, crate::proofs::Moves::leave_left, crate::proofs::Moves::leave_end))]
+#[tactic(auto, using(crate::proofs::Moves::peek_low, crate::proofs::Moves::leave_unclean, crate::proofs::Moves::leave_refused, crate::proofs::Moves::leave_absent, crate::proofs::Moves::leave_stops, crate::proofs::Moves::leave_left, crate::proofs::Moves::leave_end, crate::proofs::Moves::leave_sound))]
 fn leave_pinned(old: &mut State, new: &State, list: &mut [u16; 256]) -> Result<(), Refusal>
     requires { old.old.capacity ≤ 256 }
     ensures value { tried (moving_of old.new new.now (take old.old.capacity list.new)) result
         ≡ each_slot leave_pinned old.old.capacity 0 (moving_of old.old new.now (take old.old.capacity list.old)) }
     ensures size { old.new.capacity ≡ old.old.capacity }
+    ensures sound { sound old.old ≡ true → sound old.new ≡ true }
 {
     let capacity = old.capacity;
     for slot in 0..capacity {
@@ -47,11 +49,12 @@ fn leave_pinned(old: &mut State, new: &State, list: &mut [u16; 256]) -> Result<(
 const ROUNDS: usize = 257;
 
 // The oldest keys are removed until the rest fits into the new table.
-#[tactic(auto, using(crate::proofs::Moves::drop_end, crate::proofs::Moves::drop_fits, crate::proofs::Moves::drop_none, crate::proofs::Moves::drop_stops, crate::proofs::Moves::drop_on))]
+#[tactic(auto, using(crate::proofs::Moves::drop_end, crate::proofs::Moves::drop_fits, crate::proofs::Moves::drop_none, crate::proofs::Moves::drop_stops, crate::proofs::Moves::drop_on, crate::proofs::Moves::drop_sound))]
 fn drop_oldest(old: &mut State, new: &State) -> Result<(), Refusal>
     requires { old.old.capacity ≤ 256 }
     ensures value { (list : List ℕ) → tried (moving_of old.new new.now list) result ≡ drop_oldest 257 (moving_of old.old new.now list) }
     ensures size { old.new.capacity ≡ old.old.capacity }
+    ensures sound { sound old.old ≡ true → sound old.new ≡ true }
 {
     let room = new.capacity.saturating_sub(new.clean);
     for _ in 0..ROUNDS {

@@ -116,6 +116,24 @@ module _ {A : Type 0} (f : A → List ℕ) where
         | no! b ↦ let h = leb-false n (length xs) b in rw (drop_of_length-le xs {i = n} (omega arith))
       ]
 
+  told_none : (place : ℕ) (l : List A) → held f l ≡ 0 → told f false place l ≡ []
+  unfolding held told placed
+  told_none place [] e = refl
+  told_none place (x ∷ l) e =
+      elim (is (all_zero (f x))) [
+        | yes! z ↦ let h : 0 + held f l ≡ 0 = rw z at e in rw z (told_none (suc place) l (omega arith))
+        | no! z ↦ let h : 1 + held f l ≡ 0 = rw z at e in absurd (omega arith)
+      ]
+
+  -- none of them holds anything
+  pub past_none : (xs ys : List A) (n from h : ℕ) → from ≡ min n (length xs) → ys ≡ drop from xs → h ≡ held f ys → h ≡ 0
+      → h ∷ [] ≡ past f n xs
+  unfolding past
+  past_none xs ys n from h e s w o =
+      let z : ys ≡ drop n xs = s ∙ rw e (cut n xs) in
+      let g : h ≡ held f (drop n xs) = w ∙ ap (held f) z in
+      rw (told_none n (drop n xs) (sym g ∙ o)) (ap (λ x. x ∷ []) g)
+
   pub past_end : (xs ys : List A) (n from i h : ℕ) → from ≡ min n (length xs) → ys ≡ drop from xs → length ys ≤ i → h ≡ held f ys
       → h ∷ told f false from (take i ys) ≡ past f n xs
   unfolding past

@@ -131,6 +131,10 @@ pub fn put_list_past<T: Place>(page: &mut Page, list: &[T], length: usize)
         )
         .count();
     page.put(held);
+    // Mostly there are none, and then the places are not gone over again.
+    if held == 0 {
+        return;
+    }
     for (i, place) in behind.iter().enumerate() {
         put_place(page, from + i, place);
     }

@@ -81,11 +81,18 @@ pub run_end : (left : ℕ) (s : Standing) (n : ℕ) (bytes before : List ℕ) �
 run_end zero s n bytes before h = rw (no_record zero s n bytes (omega arith), append-nil)
 run_end (suc left) s n bytes before h = rw (no_bytes (suc left) s n bytes (omega (arith, h (omega arith))), append-nil)
 
--- x is the record at the front of the bytes, y what is behind it, and st the step that it makes
+module _ (left : ℕ) (s : Standing) (n : ℕ) (bytes before after : List ℕ) (st : Stepped) (stepped : st ≡ step s bytes) (some : 0 < left) (more : 0 < length bytes) (line : after ≡ before ++ line_after n st) where
+  pub run_bad : is_bad st.said ≡ true → printed st.standing n true after ≡ in_front before (run_from left s n bytes)
+  run_bad bad = rw (line, bad_step left s n bytes some more (rw stepped at bad), stepped)
+
+  pub run_on : is_bad st.said ≡ false → in_front after (run_from (left - 1) st.standing (n + 1) (drop 24 bytes)) ≡ in_front before (run_from left s n bytes)
+  run_on good = rw (line, good_step left s n bytes some more (rw stepped at good), stepped, append_assoc)
+
+-- the last two, where x is the record at the front of the bytes, y what is behind it, and st the step that x makes
 module _ (left k m : ℕ) (s : Standing) (n : ℕ) (bytes x y before after : List ℕ) (st : Stepped) (stepped : st ≡ step s x) (one : k + 1 ≡ left) (cut : bytes ≡ x ++ y) (whole_size : m ≡ 24) (size : length x ≡ min m (length bytes)) (more : 0 < length bytes) (line : after ≡ before ++ line_after n st) where
-  here : step s bytes ≡ st
+  here : st ≡ step s bytes
   here = elim (is (leb 24 (length x))) [
-    | yes! e ↦ rw (cut, stepped) (front s x y (leb-true 24 (length x) e))
+    | yes! e ↦ rw (cut, stepped) (sym (front s x y (leb-true 24 (length x) e)))
     | no! e ↦
         let short = leb-false 24 (length x) e in
         let long : length bytes ≡ length x + length y = rw cut (length-append x y) in
@@ -93,13 +100,13 @@ module _ (left k m : ℕ) (s : Standing) (n : ℕ) (bytes x y before after : Lis
         rw (cut, none, append-nil, stepped)
   ]
 
-  pub run_bad : is_bad st.said ≡ true → printed st.standing n true after ≡ in_front before (run_from left s n bytes)
-  run_bad bad = rw (line, bad_step left s n bytes (omega arith) more (rw here bad), here)
+  pub chunk_bad : is_bad st.said ≡ true → printed st.standing n true after ≡ in_front before (run_from left s n bytes)
+  chunk_bad = run_bad left s n bytes before after st here (omega arith) more line
 
-  pub run_on : is_bad st.said ≡ false → in_front after (run_from k st.standing (n + 1) y) ≡ in_front before (run_from left s n bytes)
-  run_on good =
+  pub chunk_on : is_bad st.said ≡ false → in_front after (run_from k st.standing (n + 1) y) ≡ in_front before (run_from left s n bytes)
+  chunk_on good =
       let h : 24 ≤ length x = whole s x st stepped good in
       let e : left - 1 ≡ k = omega arith in
       let e24 : length x ≡ 24 = omega arith in
       let behind : drop 24 bytes ≡ y = rw (← e24, cut) (drop-append_seam x y) in
-      rw (line, good_step left s n bytes (omega arith) more (rw here good), here, append_assoc, e, behind)
+      rw (← e, ← behind) (run_on left s n bytes before after st here (omega arith) more line good)

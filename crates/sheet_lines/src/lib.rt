@@ -4,11 +4,13 @@
 #![tactic(auto)]
 
 ghost use Rattle.std.specs.Prelude.{◌≡◌, ◌+◌, ◌≤◌, ◌<◌, ◌^◌, length, take, drop};
+ghost use Rattle.sheet_lines.specs.Words.{text_of};
 ghost use Rattle.sheet_lines.specs.Record.{low, read_record, place_of};
 ghost use Rattle.sheet_lines.specs.Words.{is_bad};
 
 use arrayvec::ArrayVec;
 use key::CacheKey;
+use std::marker::Model;
 
 // A record's fields. The bytes of file, kind and index are a key. The code stays a number: `sheet_record`, `sheet_show` and `sheet_uses` take a record
 // with any.
@@ -42,8 +44,58 @@ pub enum Said {
 // The most bytes of a line.
 pub const LINE: usize = 96;
 
+// A text that is written to its end. It is `Copy`, which the `ArrayVec` that it is written in is not, and a contract sees both as the same record.
+// The bytes behind the text are 0, so that the text alone tells the value.
+#[derive(Clone, Copy, Debug, PartialEq, Eq)]
+pub struct Written<const N: usize> {
+    bytes: [u8; N],
+    len: usize,
+}
+
+impl<const N: usize> Model for Written<N> {
+    ghost use Rattle.std.specs.Prelude.{◌≡◌, ◌++◌, ◌-◌, ℕ, length, take, replicate};
+    ghost use Rattle.std.proofs.Common.{ap, ◌∙◌};
+    ghost use Rattle.arrayvec.specs.ArrayVec.{ArrayVec as Items, array_vec_len};
+
+    ghost Value = { Items ℕ };
+
+    ghost view = { λ w. record { items = take w.len w.bytes } };
+
+    ghost invariant = { λ w. (length (take w.len w.bytes) ≡ w.len) × (take w.len w.bytes ++ replicate (N - w.len) 0 ≡ w.bytes) };
+
+    ghost inverse = { λ v. record { bytes = v.items ++ replicate (N - array_vec_len v) 0; len = array_vec_len v } };
+
+    ghost inverse_ok = { λ w h i. record {
+      bytes = (ap (λ k. take w.len w.bytes ++ replicate (N - k) 0) h.0 ∙ h.1) i;
+      len = h.0 i;
+    } };
+}
+
+impl<const N: usize> Written<N> {
+    // The bytes.
+    pub fn as_slice(&self) -> &[u8]
+        ensures value { result.now ≡ text_of self.now }
+        ensures fits { length result.now ≤ N }
+    {
+        &self.bytes[..self.len]
+    }
+}
+
+impl<const N: usize> From<&ArrayVec<u8, N>> for Written<N> {
+    ghost from_gives = { λ text w. w ≡ text.now };
+
+    #[tactic(auto, using(crate::proofs::Zeros::zeros_behind))]
+    fn from(text: &ArrayVec<u8, N>) -> Self {
+        let text = text.as_slice();
+        let len = text.len();
+        let mut bytes = [0; N];
+        bytes[..len].copy_from_slice(text);
+        Written { bytes, len }
+    }
+}
+
 // A line's text.
-pub type Line = ArrayVec<u8, LINE>;
+pub type Line = Written<LINE>;
 
 // The bytes of a record.
 pub const RECORD: usize = 24;

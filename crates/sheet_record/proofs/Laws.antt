@@ -5,8 +5,9 @@ use Prim.Native.Nat.{ℕ, ◌+◌, ◌*◌, ◌^◌, ◌≤◌, ◌<◌}
 use native.Mathlib.Omega.{arith}
 use mathlib.Core.Path.{◌≡◌, refl, ◌∙◌}
 use mathlib.Core.Bool.{Bool, true, false}
-use mathlib.Core.List.{◌∷◌, ◌++◌}
+use mathlib.Core.List.{List, ◌∷◌, ◌++◌}
 use lib.Dec.{eqb, leb}
+use lib.ListN.{length}
 use borrow.Author.Tests.{le-leb}
 use Rattle.std.specs.Int.{w32, w64, to_le_bytes, from_bool}
 use Rattle.std.proofs.lemmas.Nat.{from_le_bytes-to_le_bytes_4, from_le_bytes-to_le_bytes_8}
@@ -34,9 +35,19 @@ bit_one : (b : Bool) → (leb (from_bool b) 1 ≡ true) × (eqb (from_bool b) 1 
 bit_one true = (refl, refl)
 bit_one false = (refl, refl)
 
-pub reads_back : (r : Record) → r.place ≤ 15 → r.number ≤ 4294967295 → r.key.file < 2 ^ 64 → r.key.index < 2 ^ 64
-    → read_record (r.code ∷ from_bool r.allow ∷ r.key.kind ∷ r.place ∷ to_le_bytes w32 r.number ++ to_le_bytes w64 r.key.file ++ to_le_bytes w64 r.key.index)
-    ≡ (if good r then Some r else None)
+-- the numbers may stand in any bytes that say them
+pub reads_back : (r : Record) (flag : ℕ) (rest : List ℕ) → r.place ≤ 15 → r.number ≤ 4294967295 → flag ≡ from_bool r.allow
+    → length rest ≡ 20 → low 4 rest 0 ≡ r.number → low 8 rest 4 ≡ r.key.file → low 8 rest 12 ≡ r.key.index
+    → read_record (r.code ∷ flag ∷ r.key.kind ∷ r.place ∷ rest) ≡ (if good r then Some r else None)
 unfolding read_record in_range fields_of good low
-reads_back r place number file index =
-    rw (four_back r.number (omega arith), eight_back r.key.file file, eight_back r.key.index index, (bit_one r.allow).0, (bit_one r.allow).1, le-leb _ _ place, le-leb _ _ number)
+reads_back r flag rest place number flag_is long number_is file_is index_is =
+    rw (long, number_is, file_is, index_is, flag_is, (bit_one r.allow).0, (bit_one r.allow).1, le-leb _ _ place, le-leb _ _ number)
+
+pub written_back : (r : Record) (number file index : ℕ) → r.place ≤ 15 → number ≤ 4294967295 → file < 2 ^ 64 → index < 2 ^ 64
+    → number ≡ r.number → file ≡ r.key.file → index ≡ r.key.index
+    → read_record (r.code ∷ from_bool r.allow ∷ r.key.kind ∷ r.place ∷ to_le_bytes w32 number ++ to_le_bytes w64 file ++ to_le_bytes w64 index)
+    ≡ (if good r then Some r else None)
+unfolding low
+written_back r number file index place n f i number_is file_is index_is =
+    reads_back r (from_bool r.allow) (to_le_bytes w32 number ++ to_le_bytes w64 file ++ to_le_bytes w64 index) place (omega arith) refl refl
+    (four_back number (omega arith) ∙ number_is) (eight_back file f ∙ file_is) (eight_back index i ∙ index_is)

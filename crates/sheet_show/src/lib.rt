@@ -10,7 +10,7 @@ ghost use Rattle.sheet_show.specs.Form.{shown, word_text, call_text, record_text
 
 use arrayvec::ArrayVec;
 use itoa::Integer;
-use sheet_lines::Record;
+use sheet_lines::{Record, Written};
 use sheet_uses::{only_used, uses_number};
 use sheet_words::{put, put_number};
 
@@ -18,11 +18,14 @@ use sheet_words::{put, put_number};
 pub const ROOM: usize = 200;
 
 // A record's line.
-pub type Text = ArrayVec<u8, ROOM>;
+pub type Text = Written<ROOM>;
+
+// A line that is still written.
+type Begun = ArrayVec<u8, ROOM>;
 
 // A field behind a text, with its name, where it is not what is usual. The room that is left stands in clauses: it is another number at each function.
 #[tactic(auto, using(std::proofs::lemmas::List::append_assoc))]
-fn put_field<I: Integer + PartialEq>(text: &mut Text, name: &[u8], value: I, usual: I)
+fn put_field<I: Integer + PartialEq>(text: &mut Begun, name: &[u8], value: I, usual: I)
     requires { array_vec_len text.old + length name.now + I.MAX_STR_LEN ≤ 200 }
     ensures text_value { text_of text.new ≡ text_of text.old ++ (if I.eq value usual then [] else name.now ++ I.text value) }
     ensures len_bound { array_vec_len text.new ≤ array_vec_len text.old + length name.now + I.MAX_STR_LEN }
@@ -55,7 +58,7 @@ fn word_of(code: u8, allow: bool) -> &'static [u8]
 
 // The front of a line that is a call: its word, with its number where it uses one.
 #[tactic(auto, using(basics::proofs::Tests::tests, sheet_lines::proofs::Bytes::decimal_same), unfolding(crate::specs::Form::call_text))]
-fn call_text(call: Record) -> Text
+fn call_text(call: Record) -> Begun
     ensures text_value { text_of result ≡ call_text call }
     ensures len_bound { array_vec_len result ≤ 60 }
 {
@@ -69,7 +72,7 @@ fn call_text(call: Record) -> Text
 
 // The front of a line that tells every field.
 #[tactic(auto, using(sheet_lines::proofs::Bytes::decimal_same), unfolding(crate::specs::Form::record_text, crate::specs::Form::field_text, sheet_lines::specs::Text::bytes_of))]
-fn record_text(call: Record) -> Text
+fn record_text(call: Record) -> Begun
     ensures text_value { text_of result ≡ record_text call }
     ensures len_bound { array_vec_len result ≤ 60 }
 {
@@ -82,7 +85,7 @@ fn record_text(call: Record) -> Text
 
 // The front of a line: the fields behind it are told by their names.
 #[tactic(auto, using(basics::proofs::Tests::tests), unfolding(crate::specs::Form::head_text))]
-fn head_text(call: Record) -> Text
+fn head_text(call: Record) -> Begun
     ensures text_value { text_of result ≡ head_text call }
     ensures len_bound { array_vec_len result ≤ 60 }
 {
@@ -115,5 +118,5 @@ pub fn show_record(call: Record) -> Text
     put_field(&mut text, b" allow=", u8::from(call.allow), u8::from(usual));
     put_field(&mut text, b" place=", call.place, 0);
     text.push(b'\n');
-    text
+    Text::from(&text)
 }

@@ -34,7 +34,7 @@ fn pin_to(pins: &mut [u8; 256], slot: usize, pin: u8)
 }
 
 // The pins of the old slots, each at the slot that the list gives its key.
-#[tactic(auto, using(std::proofs::lemmas::Slice::Zip::zip_end, crate::proofs::Cases::move_end), unfolding(crate::specs::Standing::no_pins))]
+#[tactic(auto, using(std::proofs::lemmas::Slice::Zip::zip_end, crate::proofs::Cases::pair_end), unfolding(crate::specs::Standing::no_pins))]
 fn move_pins(old: &[u8; 256], list: &[u16]) -> [u8; 256]
     requires { length list.now ≤ 256 }
     ensures { result ≡ move_pins_rule (length list.now) old.now list.now 0 no_pins }

@@ -115,17 +115,17 @@ skip_is l at from e = drop-drop (run_of true (drop at l)) at l ∙ ap (λ k. dro
 from_at : (l : List ℕ) (at a : ℕ) → a ≡ run_of true (slice_range l at (length l)) → at + a ≡ at + run_of true (drop at l)
 from_at l at a p = ap (λ k. at + k) (p ∙ ap (λ k. run_of true k) (between_to_end l at (length l) (omega arith)))
 
-size_at : (l : List ℕ) (at from b : ℕ) → from ≡ at + run_of true (drop at l) → b ≡ run_of false (take (length l - from) (drop from l)) → b ≡ word_size (drop at l)
+pub size_at : (l : List ℕ) (at from b : ℕ) → from ≡ at + run_of true (drop at l) → b ≡ run_of false (take (length l - from) (drop from l)) → b ≡ word_size (drop at l)
 size_at l at from b e r = r ∙ ap (λ k. run_of false k) (between_to_end l from (length l) (omega arith) ∙ sym (skip_is l at from e))
 
 module _ (l : List ℕ) (at from to : ℕ) (from_is : from ≡ at + run_of true (drop at l)) (to_is : to ≡ from + word_size (drop at l)) where
-  size_is : word_size (drop at l) ≡ to - from
+  pub size_is : word_size (drop at l) ≡ to - from
   size_is = omega arith
 
-  word_is : word (drop at l) ≡ take (to - from) (drop from l)
+  pub word_is : word (drop at l) ≡ take (to - from) (drop from l)
   word_is = ap (λ k. take k (skip (drop at l))) size_is ∙ ap (λ k. take (to - from) k) (skip_is l at from from_is)
 
-  behind_is : behind (drop at l) ≡ drop to l
+  pub behind_is : behind (drop at l) ≡ drop to l
   behind_is = ap (λ k. drop (word_size (drop at l)) k) (skip_is l at from from_is) ∙ drop-drop (word_size (drop at l)) from l ∙ ap (λ k. drop k l) (sym to_is)
 
 -- ---- the next word, by what the code answers

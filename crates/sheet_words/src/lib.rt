@@ -8,7 +8,7 @@ ghost use Rattle.sheet_lines.specs.Words.{word_of, number_of, tail_of, line_of, 
 
 use arrayvec::ArrayVec;
 use itoa::Integer;
-use sheet_lines::{Line, Said, is_bad};
+use sheet_lines::{LINE, Line, Said, is_bad};
 
 // Some bytes behind a text.
 pub fn put<const N: usize>(text: &mut ArrayVec<u8, N>, word: &[u8])
@@ -54,7 +54,7 @@ fn word_of(said: Said) -> &'static [u8]
 
 // The word's number, or `-`, behind a line.
 #[tactic(auto, using(sheet_lines::proofs::Bytes::decimal_same))]
-fn put_number_of(line: &mut Line, said: Said)
+fn put_number_of(line: &mut ArrayVec<u8, LINE>, said: Said)
     requires { array_vec_len line.old + 20 ≤ 96 }
     ensures text_value { text_of line.new ≡ text_of line.old ++ number_of said }
     ensures len_bound { array_vec_len line.new ≤ array_vec_len line.old + 20 }
@@ -75,7 +75,7 @@ fn put_number_of(line: &mut Line, said: Said)
 
 // What stands behind the word: the other three fields, and nothing behind `bad`.
 #[tactic(auto, using(std::proofs::lemmas::List::append_assoc, basics::proofs::Tests::tests, sheet_lines::proofs::Bytes::decimal_same), unfolding(sheet_lines::specs::Words::tail_of))]
-fn put_tail(line: &mut Line, said: Said, clean: usize, loading: usize)
+fn put_tail(line: &mut ArrayVec<u8, LINE>, said: Said, clean: usize, loading: usize)
     requires { array_vec_len line.old + 64 ≤ 96 }
     ensures { text_of line.new ≡ text_of line.old ++ tail_of said clean loading }
 {
@@ -100,5 +100,5 @@ pub fn line_of(number: u64, said: Said, clean: usize, loading: usize) -> Line
     line.push(b' ');
     put(&mut line, word_of(said));
     put_tail(&mut line, said, clean, loading);
-    line
+    Line::from(&line)
 }

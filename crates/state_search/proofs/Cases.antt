@@ -1,24 +1,25 @@
 -- SPDX-License-Identifier: Apache-2.0
--- The walk along a chain, one step on and at its end; and that find and peek_clean are such walks. Assumes nothing.
+-- The walk along a chain, one step on and at its end; that find and peek_clean are such walks; and the use number of a touch. Assumes nothing.
 use Rattle.std.proofs.Common.{if◌then◌else◌}
 use Prim.Native.Nat.{ℕ, zero, suc, ◌+◌, ◌-◌, ◌≤◌, ◌<◌}
 use mathlib.Core.Path.{◌≡◌, refl}
 use mathlib.Core.Option.{some}
 use native.Mathlib.Omega.{arith}
 use lib.Dec.{leb, eqb}
-use borrow.Author.Tests.{eqb-true, eqb-false, eq-eqb, ne_eqb}
+use borrow.Author.Tests.{eqb-true, eqb-false, eq-eqb, ne_eqb, not-true}
 use Rattle.basics.specs.Try.{Try, ok, refuse, ◌>>=◌}
-use mathlib.Core.Bool.{Bool}
+use mathlib.Core.Bool.{Bool, not}
 use Rattle.state.specs.declared.Slot.{Slot}
 use Rattle.state_search.specs.Sought.{walk_from, walk_key, find_test, peek_test}
-use Rattle.basics.specs.Refusals.{STOP}
-use Rattle.basics.specs.Numbers.{NONE}
-use Rattle.basics.proofs.Tests.{yes!, no!, is, left_suc}
+use Rattle.basics.specs.Refusals.{STOP, EXHAUSTED}
+use Rattle.basics.specs.Numbers.{NONE, MAX}
+use Rattle.basics.proofs.Tests.{yes!, no!, is, left_suc, met}
 use Rattle.key.specs.declared.CacheKey.{CacheKey}
 use Rattle.index.specs.Chain.{CHAIN, head_of, next_of, length_of, walked}
+use Rattle.eviction.specs.declared.EvictionHeap.{EvictionHeap}
 use Rattle.state.specs.declared.State.{State}
 use Rattle.state.specs.Slots.{slot_at, occupied}
-use Rattle.state.specs.Find.{ended, find_from, find_key}
+use Rattle.state.specs.Find.{ended, find_from, find_key, touch_next}
 use Rattle.state.specs.Reads.{peek_from, peek_clean}
 
 pub walk_step : (rule : Slot → Try Bool) (steps : ℕ) (t : State) (key : CacheKey) (s i : ℕ) → i < steps
@@ -64,3 +65,8 @@ walked_all kept steps h =
       | yes! e ↦ rw e (eq-eqb (kept + (CHAIN - steps)) CHAIN (omega (arith, eqb-true kept steps e)))
       | no! e ↦ rw e (ne_eqb (kept + (CHAIN - steps)) CHAIN (λ q. eqb-false kept steps e (omega arith)))
     ]
+
+-- a touch that went on had a next use number
+pub touched_next : (c : ℕ) (h : EvictionHeap) (slot last : ℕ) {k : EvictionHeap} → touch_next c h slot last ≡ ok k → last ≡ MAX → ⊥
+unfolding touch_next
+touched_next c h slot last {k} e = eqb-false last MAX (not-true (eqb last MAX) (met (not (eqb last MAX)) EXHAUSTED _ k e).0)

@@ -33,7 +33,7 @@ pub enum Seen {
 
 // Whether the slot holds a key: the Rust's `Slot::key` gives one.
 #[tactic(auto, using(basics::proofs::Tests::tests), unfolding(state::specs::Slots::occupied))]
-fn holds_key(slot: Slot) -> bool
+pub fn holds_key(slot: Slot) -> bool
     ensures { result ≡ occupied slot }
 {
     slot.kind == LOADING || slot.kind == CLEAN
@@ -49,7 +49,7 @@ fn clean_with(slot: Slot, key: CacheKey) -> bool
 
 // The next use number is taken and the slot touched, on the heap alone.
 #[tactic(auto, using(basics::proofs::Tests::tests), unfolding(state::specs::Find::touch_next))]
-fn touch_next(
+pub fn touch_next(
     capacity: usize,
     heap: EvictionHeap,
     slot: usize,

@@ -3,7 +3,7 @@
 // is 0 then too. Which bytes are read and written no contract can say.
 #![tactic(auto)]
 
-ghost use Rattle.std.specs.Prelude.{◌≡◌, Ok, length, IfOk};
+ghost use Rattle.std.specs.Prelude.{◌≡◌, Ok, length, MatchResult};
 ghost use Rattle.io.specs.Counts.{IsPrefixLen};
 
 use std::io::Read;
@@ -12,9 +12,21 @@ use std::io::Read;
 #[derive(Clone, Copy, Debug)]
 pub struct Failed;
 
-// Reads until the block is full or the input ends: how many bytes of it were read.
-pub fn read_block<R: Input + Eprint>(rt: &R, block: &mut [u8]) -> Result<usize, Failed>
-    ensures prefix_len { IfOk result (λ count. IsPrefixLen count block.new) }
+// A read that failed: how many bytes of the block were read before it. Standard error was told.
+#[derive(Clone, Copy, Debug)]
+pub struct ReadFailed {
+    pub count: usize,
+}
+
+impl From<ReadFailed> for Failed {
+    fn from(_: ReadFailed) -> Failed {
+        Failed
+    }
+}
+
+// Reads until the block is full, the input ends or a read fails: how many bytes of it were read.
+pub fn read_block<R: Input + Eprint>(rt: &R, block: &mut [u8]) -> Result<usize, ReadFailed>
+    ensures prefix_len { MatchResult result (λ count. IsPrefixLen count block.new) (λ failed. IsPrefixLen failed.count block.new) }
     ensures block_len_unchanged { length block.new ≡ length block.old }
 {
     let mut input = rt.reader();
@@ -26,7 +38,7 @@ pub fn read_block<R: Input + Eprint>(rt: &R, block: &mut [u8]) -> Result<usize, 
             Ok(more) => count += more,
             Err(error) => {
                 let _ = eprintln!(rt; "standard input: {error}");
-                return Err(Failed);
+                return Err(ReadFailed { count });
             }
         }
     }

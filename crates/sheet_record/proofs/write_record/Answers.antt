@@ -1,7 +1,7 @@
 -- SPDX-License-Identifier: Apache-2.0
 -- `sheet_record::write_record` meets its contract. Assumes nothing.
 use native.Mathlib.Omega.{arith}
-use Rattle.sheet_record.proofs.Laws.{reads_back}
+use Rattle.sheet_record.proofs.Laws.{written_back}
 use Rattle.sheet_record.proofs.write_record.Goals as goal
 
 pub returns : goal.returns
@@ -15,4 +15,4 @@ returns c = rw (
   c.from.ensures,
   c.in-Ok.ensures.1,
   c.in-Ok-try_from.ensures.1,
-) (reads_back c.args.call (omega arith) (omega arith) (omega arith) (omega arith))
+) (written_back c.args.call _ _ _ (omega arith) (omega arith) (omega arith) (omega arith) (omega arith) (omega arith) (omega arith))

@@ -13,8 +13,8 @@ wrapped k {turned} {kind} t e = mod-add-mod _ _ _ ∙ ap (λ (x : ℕ). (x + kin
 
 pub returns-then-buckets-eq0 : goal.returns-then-buckets-eq0
 unfolding bucket_of
-returns-then-buckets-eq0 c = wrapped _ c.rotate_left_5-turned.ensures c.from.ensures ∙ rw (c.if-buckets-eq0.true, mod-zero)
+returns-then-buckets-eq0 c = wrapped c.args.self c.rotate_left_5-turned.ensures c.from.ensures ∙ rw (c.if-buckets-eq0.true, mod-zero)
 
 pub returns : goal.returns
 unfolding bucket_of
-returns c = ap (λ (x : ℕ). x % c.args.buckets) (wrapped _ c.rotate_left_5-turned.ensures c.from.ensures)
+returns c = ap (λ (x : ℕ). x % c.args.buckets) (wrapped c.args.self c.rotate_left_5-turned.ensures c.from.ensures)
